@@ -1,0 +1,20 @@
+use std::alloc::{AllocError, AllocFailed};
+use thiserror::Error;
+
+/// No memory was found for what a call had to make. What the call was given stays as it was, unless
+/// the call says otherwise.
+#[derive(Clone, Copy, Debug, PartialEq, Eq, Error)]
+#[error("out of memory")]
+pub struct OutOfMemory;
+
+impl From<AllocError> for OutOfMemory {
+    fn from(_error: AllocError) -> OutOfMemory {
+        OutOfMemory
+    }
+}
+
+impl<T: Drop> From<AllocFailed<T>> for OutOfMemory {
+    fn from(_error: AllocFailed<T>) -> OutOfMemory {
+        OutOfMemory
+    }
+}
