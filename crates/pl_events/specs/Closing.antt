@@ -1,0 +1,34 @@
+use Rattle.std.specs.Prelude.{ℕ, ◌+◌, Bool, true, false, ◌||◌, if◌then◌else◌, List, [], ◌∷◌}
+use Rattle.pl_events.specs.declared.event.Event.{Event}
+use Rattle.pl_events.specs.declared.event.What.{What}
+use Rattle.pl_events.specs.declared.event.What.TheVariants.{Told, HostGone, Kept, Posted, Stopped}
+
+-- whether the event is the host's end
+abbrev pub is_host_end : What → Bool
+is_host_end (HostGone _) = true
+is_host_end (Told _) = false
+is_host_end (Kept _) = false
+is_host_end (Posted _) = false
+is_host_end (Stopped _) = false
+
+-- whether the event is a stop
+abbrev pub is_stop : What → Bool
+is_stop (Stopped _) = true
+is_stop (HostGone _) = false
+is_stop (Told _) = false
+is_stop (Kept _) = false
+is_stop (Posted _) = false
+
+-- whether the host's end stands in the history
+abbrev pub has_host_end : List Event → Bool
+has_host_end [] = false
+has_host_end (event ∷ past) = is_host_end event.what || has_host_end past
+
+-- whether a stop stands in the history
+abbrev pub has_stop : List Event → Bool
+has_stop [] = false
+has_stop (event ∷ past) = is_stop event.what || has_stop past
+
+-- how many of the two closing events are still to come: the host's end and one stop
+abbrev pub closings_left : List Event → ℕ
+closings_left history = (if has_host_end history then 0 else 1) + (if has_stop history then 0 else 1)

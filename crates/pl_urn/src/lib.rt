@@ -1,0 +1,6 @@
+//! Stub.
+#![tactic(auto)]
+
+mod urn;
+
+pub use urn::Urn;
