@@ -1,4 +1,4 @@
-ghost use Rattle.std.specs.Prelude.{◌≡◌, [], ◌∷◌, ◌++◌, IfOk, length, OnErr, OnOk, option_map, slice_get};
+ghost use Rattle.std.specs.Prelude.{◌≡◌, [], ◌∷◌, ◌++◌, IfOk, length, OnErr, OnOk, option_map, slice_get, take};
 
 use crate::entry::Entry;
 use pl_value::{OutOfMemory, Text};
@@ -50,6 +50,15 @@ impl Entries {
     {
         self.rows.push(entry)?;
         Ok(())
+    }
+}
+
+impl Entries {
+    /// Takes the entries from this place on away; takes no memory.
+    pub fn truncate(&mut self, len: usize)
+        ensures { self.new ≡ take len self.old }
+    {
+        self.rows.truncate(len);
     }
 }
 

@@ -1,6 +1,8 @@
 //! Stub.
 #![tactic(auto)]
 
+mod fault;
 mod urn;
 
+pub use fault::UrnFault;
 pub use urn::Urn;

@@ -1,0 +1,60 @@
+-- What the journal keeps beside its history, and how a stop changes the history.
+use Rattle.std.specs.Prelude.{◌≡◌, ◌⊎◌, ℕ, Bool, true, false, ◌||◌, if◌then◌else◌, is_some, List, [], ◌∷◌}
+use Rattle.pl_events.specs.Closing.{has_stop}
+use Rattle.pl_events.specs.declared.event.Event.{Event}
+use Rattle.pl_events.specs.declared.event.Stop.{Stop}
+use Rattle.pl_events.specs.declared.event.HostEnd.{HostEnd}
+use Rattle.pl_events.specs.declared.event.HostEnd.TheVariants.{Success, Ended, PipeFault, BadFrame, NoMemory}
+use Rattle.pl_events.specs.declared.event.Request.TheVariants.{Register}
+use Rattle.pl_events.specs.declared.event.What.TheVariants.{Told, HostGone, Kept, Posted, Stopped}
+use Rattle.pl_state.specs.declared.goal.Registration.{Registration}
+use Rattle.pl_model.specs.Run.{Fixed}
+use Rattle.pl_model.specs.Problems.{has_problem, least_outcome}
+use Rattle.pl_model.specs.Requests.{last_number}
+use Rattle.pl_model.specs.Entries.{new_entries}
+use Rattle.pl_model.specs.Legal.{IsLegal}
+use Rattle.pl_engine.specs.Spelled.{host_spelling}
+use Rattle.pl_engine.specs.declared.journal.Journal.{Journal}
+
+-- the run's fixed data, as the journal keeps them
+abbrev pub run_of : Journal → Fixed
+run_of journal = record { stack = journal.state.stack; project = journal.project }
+
+-- what the journal keeps is what its history says, and the history is legal
+pub record Consistent (run : Fixed) (journal : Journal) : Type 0 where
+  pub stack : journal.state.stack ≡ run.stack
+  pub project : journal.project ≡ run.project
+  pub entries : journal.state.entries ≡ new_entries run journal.history
+  pub last : journal.last ≡ last_number journal.history
+  pub halted : journal.halted ≡ has_problem journal.history
+  pub stopped : journal.stopped ≡ has_stop journal.history
+  pub outcome : journal.outcome ≡ least_outcome journal.history
+  pub known : journal.halted ≡ (is_some journal.outcome || journal.wanted)
+  pub halting : journal.stopped ≡ true → journal.halted ≡ true
+  pub legal : IsLegal run host_spelling journal.history
+
+-- the history after a stop: the first one stands alone
+abbrev pub stopped_by : Stop → Bool → List Event → List Event
+stopped_by stop stopped history =
+    if stopped then history else record { seat = 0; what = Stopped stop } ∷ history
+
+-- the events that the journal appends
+abbrev pub told_event : ℕ → Registration → Event
+told_event n told = record { seat = 0; what = Told (Register n told) }
+
+abbrev pub kept_event : ℕ → Event
+kept_event goal = record { seat = 0; what = Kept goal }
+
+abbrev pub posted_event : ℕ → Event
+posted_event n = record { seat = 0; what = Posted n }
+
+abbrev pub end_event : HostEnd → Event
+end_event end = record { seat = 0; what = HostGone end }
+
+-- whether the host's end is want of memory
+abbrev pub is_want_end : HostEnd → Bool
+is_want_end Success = false
+is_want_end Ended = false
+is_want_end PipeFault = false
+is_want_end (BadFrame _) = false
+is_want_end NoMemory = true

@@ -1,0 +1,188 @@
+ghost use Rattle.std.specs.Prelude.{◌≡◌, ◌+◌, ◌++◌, ◌≤◌, ◌^◌, [], ◌∷◌, true, false, Some, None, is_none, is_some, length, IfErr, OnErr, OnOk};
+ghost use Rattle.pl_engine.specs.Spelled.{host_spelling};
+ghost use Rattle.pl_engine.specs.Journal.{Consistent, end_event, is_want_end, kept_event, posted_event, run_of, stopped_by, told_event};
+ghost use Rattle.pl_events.specs.Closing.{has_host_end};
+ghost use Rattle.pl_model.specs.Requests.{goal_at, goals_of, may_be_next};
+ghost use Rattle.pl_model.specs.Entries.{entry_if};
+ghost use Rattle.pl_model.specs.Due.{is_keep_due, is_post_due};
+ghost use Rattle.pl_model.specs.Legal.{StopFits};
+ghost use Rattle.pl_model.specs.Problems.{first_of, outcome_of_problem, outcome_of_event, problem_of_end, problem_of_stop};
+
+use pl_decide::{Child, Outcome, Problem};
+use pl_events::{Event, History, HostEnd, Request, Stop, What};
+use pl_state::{Entry, Registration, Snapshot};
+use pl_value::{OutOfMemory, Text};
+
+/// The seat of the thread that reads the host's messages.
+const REGISTRAR: u64 = 0;
+
+/// The run's record as it grows, with what is kept of it for the next step.
+#[derive(Debug, Drop)]
+pub struct Journal {
+    pub history: History,
+    /// The lengths of the history at which a replacement of the checkpoint succeeded.
+    pub marks: Vec<u64>,
+    /// The state that the history comes to.
+    pub state: Snapshot,
+    pub project: Text,
+    /// The number of the newest request.
+    pub last: u64,
+    /// Whether a problem stands.
+    pub halted: bool,
+    /// Whether a stop stands.
+    pub stopped: bool,
+    /// The outcome of the least problem, want of memory aside.
+    pub outcome: Option<Outcome>,
+    /// Whether memory was wanted.
+    pub wanted: bool,
+}
+
+/// The outcome of a stop at this position; none for want of memory.
+fn outcome_of_stop(at: u64, stop: Stop) -> Option<Outcome>
+    ensures { result ≡ outcome_of_problem at (problem_of_stop stop) }
+{
+    match stop {
+        Stop::StoreFault => Some(Outcome::StoreFault),
+        Stop::HostPipeFault => Some(Outcome::PipeFault(Child::Host)),
+        Stop::TooManyResources => Some(Outcome::TooManyResources),
+        Stop::MessageTooLong => Some(Outcome::Failed {
+            at,
+            problem: Problem::MessageTooLong,
+        }),
+        Stop::NoMemory => None,
+    }
+}
+
+/// The first outcome if there is one, or else the second.
+fn earlier(first: Option<Outcome>, second: Option<Outcome>) -> Option<Outcome>
+    ensures { result ≡ first_of first second }
+{
+    match first {
+        Some(outcome) => Some(outcome),
+        None => second,
+    }
+}
+
+/// Whether the host's end is a problem, and whether it is want of memory.
+fn what_end_is(end: &HostEnd) -> (bool, bool)
+    ensures problem { result.0 ≡ is_some (problem_of_end end.now) }
+    ensures want { result.1 ≡ is_want_end end.now }
+{
+    match end {
+        HostEnd::Success => (false, false),
+        HostEnd::NoMemory => (true, true),
+        HostEnd::Ended | HostEnd::PipeFault | HostEnd::BadFrame(_) => (true, false),
+    }
+}
+
+fn is_want(stop: Stop) -> bool
+    ensures { result ≡ is_none (outcome_of_problem 0 (problem_of_stop stop)) }
+{
+    match stop {
+        Stop::NoMemory => true,
+        Stop::StoreFault | Stop::HostPipeFault | Stop::TooManyResources | Stop::MessageTooLong => false,
+    }
+}
+
+impl Journal {
+    /// Appends the stop unless one stands; takes no memory.
+    pub fn stop(&mut self, stop: Stop)
+        requires consistent { Consistent (run_of self.old) self.old }
+        requires fits { self.old.stopped ≡ false → StopFits (run_of self.old) host_spelling self.old.history stop }
+        ensures consistent { Consistent (run_of self.old) self.new }
+        ensures history { self.new.history ≡ stopped_by stop self.old.stopped self.old.history }
+        ensures marks { self.new.marks.items ≡ self.old.marks.items }
+    {
+        self.wanted = self.wanted || is_want(stop);
+        if self.stopped {
+            return;
+        }
+        let at = self.history.len() as u64;
+        let outcome = self.outcome.take();
+        self.outcome = earlier(outcome, outcome_of_stop(at, stop));
+        self.history.push_stop(REGISTRAR, stop);
+        self.stopped = true;
+        self.halted = true;
+    }
+
+    /// Appends the request; after `OutOfMemory` nothing was appended.
+    pub fn tell(&mut self, n: u64, told: Registration) -> Result<(), OutOfMemory>
+        requires consistent { Consistent (run_of self.old) self.old }
+        requires host_open { has_host_end self.old.history ≡ false }
+        requires within { n ≤ 2 ^ 53 }
+        requires next { may_be_next (run_of self.old) self.old.history (Request.Register n told) ≡ true }
+        ensures consistent { Consistent (run_of self.old) self.new }
+        ensures told { OnOk result (self.new.history ≡ told_event n told ∷ self.old.history) }
+        ensures unchanged { OnErr result (self.new ≡ self.old) }
+        ensures marks { self.new.marks.items ≡ self.old.marks.items }
+    {
+        let event = Event {
+            seat: REGISTRAR,
+            what: What::Told(Request::Register { n, told }),
+        };
+        if self.history.push(event).is_err() {
+            return Err(OutOfMemory);
+        }
+        self.last = n;
+        Ok(())
+    }
+
+    /// Records the entry of a goal; after `OutOfMemory` nothing was recorded.
+    pub fn record(&mut self, goal: u64, entry: Entry) -> Result<(), OutOfMemory>
+        requires consistent { Consistent (run_of self.old) self.old }
+        requires due { is_keep_due (run_of self.old) self.old.history goal ≡ true }
+        requires entry { entry_if (goal_at (goals_of (run_of self.old) self.old.history) goal) ≡ entry ∷ [] }
+        ensures consistent { Consistent (run_of self.old) self.new }
+        ensures kept { OnOk result (self.new.history ≡ kept_event goal ∷ self.old.history) }
+        ensures unchanged { OnErr result (self.new.history ≡ self.old.history) }
+        ensures marks { self.new.marks.items ≡ self.old.marks.items }
+    {
+        let count = self.state.entries.len();
+        self.state.entries.push(entry)?;
+        let event = Event {
+            seat: REGISTRAR,
+            what: What::Kept { goal },
+        };
+        if self.history.push(event).is_err() {
+            self.state.entries.truncate(count);
+            return Err(OutOfMemory);
+        }
+        Ok(())
+    }
+
+    /// Writes down that request `n` was answered; after `OutOfMemory` nothing was written.
+    pub fn posted(&mut self, n: u64) -> Result<(), OutOfMemory>
+        requires consistent { Consistent (run_of self.old) self.old }
+        requires due { is_post_due (run_of self.old) self.old.history n ≡ true }
+        ensures consistent { Consistent (run_of self.old) self.new }
+        ensures posted { OnOk result (self.new.history ≡ posted_event n ∷ self.old.history) }
+        ensures unchanged { OnErr result (self.new ≡ self.old) }
+        ensures marks { self.new.marks.items ≡ self.old.marks.items }
+    {
+        let event = Event {
+            seat: REGISTRAR,
+            what: What::Posted { n },
+        };
+        if self.history.push(event).is_err() {
+            return Err(OutOfMemory);
+        }
+        Ok(())
+    }
+
+    /// Writes down the host's end, whose problem gives `outcome`; takes no memory.
+    pub fn end_host(&mut self, end: HostEnd, outcome: Option<Outcome>)
+        requires consistent { Consistent (run_of self.old) self.old }
+        requires host_open { has_host_end self.old.history ≡ false }
+        requires outcome { outcome ≡ outcome_of_event (length self.old.history) (problem_of_end end) }
+        ensures consistent { Consistent (run_of self.old) self.new }
+        ensures ended { self.new.history ≡ end_event end ∷ self.old.history }
+        ensures marks { self.new.marks.items ≡ self.old.marks.items }
+    {
+        let (problem, want) = what_end_is(&end);
+        self.wanted = self.wanted || want;
+        self.halted = self.halted || problem;
+        let before = self.outcome.take();
+        self.outcome = earlier(before, outcome);
+        self.history.push_host_end(REGISTRAR, end);
+    }
+}

@@ -1,0 +1,62 @@
+-- Which histories a run may have.
+use Rattle.std.specs.Prelude.{⊤, ◌≡◌, ℕ, ◌≤◌, ◌^◌, Bool, true, false, List, [], ◌∷◌}
+use Rattle.pl_events.specs.Closing.{has_host_end, has_stop}
+use Rattle.pl_events.specs.declared.event.Event.{Event}
+use Rattle.pl_events.specs.declared.event.What.{What}
+use Rattle.pl_events.specs.declared.event.What.TheVariants.{Told, HostGone, Kept, Posted, Stopped}
+use Rattle.pl_events.specs.declared.event.Request.{Request}
+use Rattle.pl_events.specs.declared.event.Stop.{Stop}
+use Rattle.pl_events.specs.declared.event.Stop.TheVariants.{StoreFault, HostPipeFault, TooManyResources, MessageTooLong, NoMemory}
+use Rattle.pl_model.specs.Run.{Fixed, Spelling}
+use Rattle.pl_model.specs.Requests.{number_of, may_be_next}
+use Rattle.pl_model.specs.Due.{is_post_due, is_keep_due, is_over_limit, is_too_long, result_of, answer_for, NothingDue}
+
+-- a request may be told: by the registrar, before the host's end, with a number that a host may give,
+-- and where it may come next
+pub record MayBeTold (run : Fixed) (past : List Event) (seat : ℕ) (request : Request) : Type 0 where
+  pub registrar : seat ≡ 0
+  pub host_open : has_host_end past ≡ false
+  pub within : number_of request ≤ 2 ^ 53
+  pub next : may_be_next run past request ≡ true
+
+-- the host may end: once, as the registrar saw it
+pub record MayEnd (past : List Event) (seat : ℕ) : Type 0 where
+  pub registrar : seat ≡ 0
+  pub host_open : has_host_end past ≡ false
+
+-- the work that is over the limit waits for nothing else
+pub record MayBeTooMany (run : Fixed) (past : List Event) : Type 0 where
+  pub nothing_due : NothingDue run past
+  pub some_over : (g : ℕ) × (is_over_limit run past g ≡ true)
+
+-- a post is due whose body a frame can't have
+pub record MayBeTooLong (run : Fixed) (spelling : Spelling) (past : List Event) : Type 0 where
+  pub some_post : (n : ℕ) × (is_post_due run past n ≡ true)
+    × (is_too_long spelling n (answer_for (result_of run past n)) ≡ true)
+
+-- what a stop tells of the history before it
+abbrev pub StopFits : Fixed → Spelling → List Event → Stop → Type 0
+StopFits run spelling past StoreFault = ⊤
+StopFits run spelling past HostPipeFault = ⊤
+StopFits run spelling past TooManyResources = MayBeTooMany run past
+StopFits run spelling past MessageTooLong = MayBeTooLong run spelling past
+StopFits run spelling past NoMemory = ⊤
+
+-- the run may stop: once
+pub record MayStop (run : Fixed) (spelling : Spelling) (past : List Event) (stop : Stop) : Type 0 where
+  pub first : has_stop past ≡ false
+  pub fits : StopFits run spelling past stop
+
+-- this may happen after that history, by the thread at this seat
+abbrev pub MayHappen : Fixed → Spelling → List Event → ℕ → What → Type 0
+MayHappen run spelling past seat (Told request) = MayBeTold run past seat request
+MayHappen run spelling past seat (HostGone end) = MayEnd past seat
+MayHappen run spelling past seat (Kept goal) = is_keep_due run past goal ≡ true
+MayHappen run spelling past seat (Posted n) = is_post_due run past n ≡ true
+MayHappen run spelling past seat (Stopped stop) = MayStop run spelling past stop
+
+-- every event may happen after those before it
+abbrev pub IsLegal : Fixed → Spelling → List Event → Type 0
+IsLegal run spelling [] = ⊤
+IsLegal run spelling (event ∷ past) =
+    IsLegal run spelling past × MayHappen run spelling past event.seat event.what

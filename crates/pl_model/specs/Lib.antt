@@ -1,0 +1,9 @@
+pub mod Run
+pub mod Problems
+pub mod Requests
+pub mod Entries
+pub mod Due
+pub mod Legal
+pub mod Saves
+pub mod HostLines
+pub mod Fulfilment

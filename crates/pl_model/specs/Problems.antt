@@ -1,0 +1,68 @@
+-- The problems of a history, and the outcome that the least one gives.
+use Rattle.std.specs.Prelude.{◌≡◌, ◌⊎◌, ℕ, Bool, true, false, ◌||◌, Option, Some, None, is_some, List, [], ◌∷◌, length}
+use Rattle.pl_events.specs.declared.event.Event.{Event}
+use Rattle.pl_events.specs.declared.event.What.{What}
+use Rattle.pl_events.specs.declared.event.What.TheVariants.{Told, HostGone, Kept, Posted, Stopped}
+use Rattle.pl_events.specs.declared.event.HostEnd.{HostEnd}
+use Rattle.pl_events.specs.declared.event.HostEnd.TheVariants as ended
+use Rattle.pl_events.specs.declared.event.Stop.{Stop}
+use Rattle.pl_events.specs.declared.event.Stop.TheVariants as stopped
+use Rattle.pl_decide.specs.declared.outcome.Child.TheVariants.{Host}
+use Rattle.pl_decide.specs.declared.outcome.Problem.{Problem}
+use Rattle.pl_decide.specs.declared.outcome.Problem.TheVariants as problem
+use Rattle.pl_decide.specs.declared.outcome.Outcome.{Outcome}
+use Rattle.pl_decide.specs.declared.outcome.Outcome.TheVariants as outcome
+
+-- the problem that a host's end is; its word of success is none
+abbrev pub problem_of_end : HostEnd → Option Problem
+problem_of_end ended.Success = None
+problem_of_end ended.Ended = Some (problem.ChildEnded Host)
+problem_of_end ended.PipeFault = Some (problem.PipeFault Host)
+problem_of_end (ended.BadFrame bytes) = Some (problem.BadFrame Host bytes)
+problem_of_end ended.NoMemory = Some problem.NoMemory
+
+-- the problem that a stop is
+abbrev pub problem_of_stop : Stop → Problem
+problem_of_stop stopped.StoreFault = problem.StoreFault
+problem_of_stop stopped.HostPipeFault = problem.PipeFault Host
+problem_of_stop stopped.TooManyResources = problem.TooManyResources
+problem_of_stop stopped.MessageTooLong = problem.MessageTooLong
+problem_of_stop stopped.NoMemory = problem.NoMemory
+
+-- the problem that an event makes
+abbrev pub problem_of_event : What → Option Problem
+problem_of_event (Told _) = None
+problem_of_event (HostGone end) = problem_of_end end
+problem_of_event (Kept _) = None
+problem_of_event (Posted _) = None
+problem_of_event (Stopped stop) = Some (problem_of_stop stop)
+
+-- whether a problem stands in the history
+abbrev pub has_problem : List Event → Bool
+has_problem [] = false
+has_problem (event ∷ past) = is_some (problem_of_event event.what) || has_problem past
+
+-- the outcome that a problem at this position gives; want of memory stands after every other
+abbrev pub outcome_of_problem : ℕ → Problem → Option Outcome
+outcome_of_problem at problem.MessageTooLong = Some (outcome.Failed at problem.MessageTooLong)
+outcome_of_problem at problem.StoreFault = Some outcome.StoreFault
+outcome_of_problem at (problem.PipeFault child) = Some (outcome.PipeFault child)
+outcome_of_problem at (problem.ChildEnded child) = Some (outcome.ChildEnded child)
+outcome_of_problem at (problem.BadFrame child bytes) = Some (outcome.BadFrame child bytes)
+outcome_of_problem at problem.TooManyResources = Some outcome.TooManyResources
+outcome_of_problem at problem.NoMemory = None
+
+abbrev pub outcome_of_event : ℕ → Option Problem → Option Outcome
+outcome_of_event at None = None
+outcome_of_event at (Some trouble) = outcome_of_problem at trouble
+
+-- the first one, if there is one, or else the second
+abbrev pub first_of : Option Outcome → Option Outcome → Option Outcome
+first_of (Some earlier) later = Some earlier
+first_of None later = later
+
+-- the outcome of the history's least problem, if it has one other than want of memory
+abbrev pub least_outcome : List Event → Option Outcome
+least_outcome [] = None
+least_outcome (event ∷ past) =
+    first_of (least_outcome past) (outcome_of_event (length past) (problem_of_event event.what))
