@@ -33,11 +33,6 @@ pub record Consistent (run : Fixed) (journal : Journal) : Type 0 where
   pub halting : journal.stopped ≡ true → journal.halted ≡ true
   pub legal : IsLegal run host_spelling journal.history
 
--- the history after a stop: the first one stands alone
-abbrev pub stopped_by : Stop → Bool → List Event → List Event
-stopped_by stop stopped history =
-    if stopped then history else record { seat = 0; what = Stopped stop } ∷ history
-
 -- the events that the journal appends
 abbrev pub told_event : ℕ → Registration → Event
 told_event n told = record { seat = 0; what = Told (Register n told) }
@@ -47,6 +42,9 @@ kept_event goal = record { seat = 0; what = Kept goal }
 
 abbrev pub posted_event : ℕ → Event
 posted_event n = record { seat = 0; what = Posted n }
+
+abbrev pub stop_event : Stop → Event
+stop_event stop = record { seat = 0; what = Stopped stop }
 
 abbrev pub end_event : HostEnd → Event
 end_event end = record { seat = 0; what = HostGone end }
@@ -58,3 +56,8 @@ is_want_end Ended = false
 is_want_end PipeFault = false
 is_want_end (BadFrame _) = false
 is_want_end NoMemory = true
+
+-- the history after a stop: the first one stands alone
+abbrev pub stopped_by : Stop → Bool → List Event → List Event
+stopped_by stop stopped history =
+    if stopped then history else stop_event stop ∷ history

@@ -1,4 +1,4 @@
-ghost use Rattle.std.specs.Prelude.{◌≡◌, ◌+◌, ◌++◌, ◌≤◌, ◌^◌, [], ◌∷◌, true, false, Some, None, is_none, is_some, length, IfErr, OnErr, OnOk};
+ghost use Rattle.std.specs.Prelude.{◌≡◌, ◌+◌, ◌++◌, ◌≤◌, ◌^◌, [], ◌∷◌, true, false, ◌||◌, Some, None, is_none, is_some, length, IfErr, OnErr, OnOk};
 ghost use Rattle.pl_engine.specs.Spelled.{host_spelling};
 ghost use Rattle.pl_engine.specs.Journal.{Consistent, end_event, is_want_end, kept_event, posted_event, run_of, stopped_by, told_event};
 ghost use Rattle.pl_events.specs.Closing.{has_host_end};
@@ -92,6 +92,8 @@ impl Journal {
         ensures consistent { Consistent (run_of self.old) self.new }
         ensures history { self.new.history ≡ stopped_by stop self.old.stopped self.old.history }
         ensures marks { self.new.marks.items ≡ self.old.marks.items }
+        ensures want { self.new.wanted ≡ (self.old.wanted || is_none (outcome_of_problem 0 (problem_of_stop stop))) }
+        ensures stopped { self.new.stopped ≡ true }
     {
         self.wanted = self.wanted || is_want(stop);
         if self.stopped {
@@ -115,6 +117,8 @@ impl Journal {
         ensures told { OnOk result (self.new.history ≡ told_event n told ∷ self.old.history) }
         ensures unchanged { OnErr result (self.new ≡ self.old) }
         ensures marks { self.new.marks.items ≡ self.old.marks.items }
+        ensures wanted { self.new.wanted ≡ self.old.wanted }
+        ensures stopped { self.new.stopped ≡ self.old.stopped }
     {
         let event = Event {
             seat: REGISTRAR,
@@ -136,6 +140,8 @@ impl Journal {
         ensures kept { OnOk result (self.new.history ≡ kept_event goal ∷ self.old.history) }
         ensures unchanged { OnErr result (self.new.history ≡ self.old.history) }
         ensures marks { self.new.marks.items ≡ self.old.marks.items }
+        ensures wanted { self.new.wanted ≡ self.old.wanted }
+        ensures stopped { self.new.stopped ≡ self.old.stopped }
     {
         let count = self.state.entries.len();
         self.state.entries.push(entry)?;
@@ -158,6 +164,7 @@ impl Journal {
         ensures posted { OnOk result (self.new.history ≡ posted_event n ∷ self.old.history) }
         ensures unchanged { OnErr result (self.new ≡ self.old) }
         ensures marks { self.new.marks.items ≡ self.old.marks.items }
+        ensures wanted { self.new.wanted ≡ self.old.wanted }
     {
         let event = Event {
             seat: REGISTRAR,
@@ -177,6 +184,7 @@ impl Journal {
         ensures consistent { Consistent (run_of self.old) self.new }
         ensures ended { self.new.history ≡ end_event end ∷ self.old.history }
         ensures marks { self.new.marks.items ≡ self.old.marks.items }
+        ensures want { self.new.wanted ≡ (self.old.wanted || is_want_end end) }
     {
         let (problem, want) = what_end_is(&end);
         self.wanted = self.wanted || want;

@@ -1,4 +1,9 @@
 //! The top call: it runs a host's program against the checkpoint.
 #![tactic(auto)]
 
+mod hear;
 mod journal;
+mod judge;
+mod keep;
+mod post;
+mod serve;

@@ -1,6 +1,5 @@
 -- What must be saved, the saves, and the texts by which the store's story grows.
-use Rattle.std.specs.Prelude.{⊤, ◌≡◌, ◌⊎◌, ℕ, ◌+◌, ◌-◌, ◌<◌, ◌==◌, Bool, true, false, if◌then◌else◌, All, Contains, List, [], ◌∷◌, ◌++◌, drop, length, map, Option, Some, None}
-use Rattle.std.specs.List.Sorted.{IsStrictlyIncreasing}
+use Rattle.std.specs.Prelude.{⊤, ◌≡◌, ◌⊎◌, ℕ, ◌+◌, ◌-◌, ◌<◌, ◌==◌, Bool, true, false, if◌then◌else◌, All, AllPairs, Contains, List, [], ◌∷◌, ◌++◌, drop, length, map, Option, Some, None}
 use Rattle.pl_events.specs.Closing.{has_stop}
 use Rattle.pl_events.specs.declared.event.Event.{Event}
 use Rattle.pl_events.specs.declared.event.What.{What}
@@ -64,7 +63,7 @@ AllMarked rose wanted next (event ∷ past) marks =
 
 -- the marks of a run: `rose` says that the store's count of faults rose in it
 pub record IsSaved (rose : Type 0) (wanted : Bool) (history : List Event) (marks : List ℕ) : Type 0 where
-  pub rising : IsStrictlyIncreasing marks
+  pub rising : AllPairs (λ earlier later. earlier < later) marks
   pub after_saves : All (λ mark. is_after_save history mark ≡ true) marks
   pub all_marked : AllMarked rose wanted None history marks
 

@@ -1,4 +1,6 @@
-ghost use Rattle.std.specs.Prelude.{◌≡◌, [], ◌∷◌, ◌++◌, IfOk, length, OnErr, OnOk, option_map, slice_get, take};
+ghost use Rattle.std.specs.Str.{bytes_eq};
+ghost use Rattle.std.specs.List.{list_any};
+ghost use Rattle.std.specs.Prelude.{find, ◌≡◌, [], ◌∷◌, ◌++◌, IfOk, length, OnErr, OnOk, option_map, slice_get, take};
 
 use crate::entry::Entry;
 use pl_value::{OutOfMemory, Text};
@@ -54,6 +56,20 @@ impl Entries {
 }
 
 impl Entries {
+    /// The first entry of this URN.
+    pub fn find_urn(&self, urn: &str) -> Option<&Entry>
+        ensures { option_map (λ entry. entry.now) result ≡ find (λ entry. bytes_eq entry.urn urn.now) self.now }
+    {
+        self.rows.iter().find(|entry| entry.urn.as_str() == urn)
+    }
+
+    /// Whether an entry has this URN.
+    pub fn has_urn(&self, urn: &str) -> bool
+        ensures { result ≡ list_any (λ entry. bytes_eq entry.urn urn.now) self.now }
+    {
+        self.rows.iter().any(|entry| entry.urn.as_str() == urn)
+    }
+
     /// Takes the entries from this place on away; takes no memory.
     pub fn truncate(&mut self, len: usize)
         ensures { self.new ≡ take len self.old }

@@ -1,5 +1,5 @@
 -- A text cut at its first `::`.
-use Rattle.std.specs.Prelude.{ℕ, Bool, true, false, ◌&&◌, ◌||◌, ◌==◌, if◌then◌else◌, List, [], ◌∷◌}
+use Rattle.std.specs.Prelude.{◌≡◌, ℕ, Bool, false, ◌&&◌, ◌||◌, ◌==◌, if◌then◌else◌, List, [], ◌∷◌, ◌++◌}
 
 -- `:`
 abbrev pub colon : ℕ
@@ -10,7 +10,7 @@ abbrev pub cut : List ℕ
 cut = colon ∷ colon ∷ []
 
 -- whether a text begins with `::`
-abbrev pub begins_with_cut : List ℕ → Bool
+unfoldable pub begins_with_cut : List ℕ → Bool
 begins_with_cut [] = false
 begins_with_cut (a ∷ []) = false
 begins_with_cut (a ∷ b ∷ rest) = (a == colon) && (b == colon)
@@ -34,3 +34,7 @@ rest_of (b ∷ bs) = bs
 unfoldable pub after_cut : List ℕ → List ℕ
 after_cut [] = []
 after_cut (b ∷ bs) = if begins_with_cut (b ∷ bs) then rest_of bs else after_cut bs
+
+-- followed by `::`, a text is cut nowhere but at its end: it holds no `::` and does not end in `:`
+abbrev pub IsWhole : List ℕ → Type 0
+IsWhole text = has_cut (text ++ colon ∷ []) ≡ false

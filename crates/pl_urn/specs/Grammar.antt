@@ -1,15 +1,15 @@
 -- The grammar of URNs: `urn:pulumi:<stack>::<project>::<qualified type>::<name>`, cut at the first three
 -- `::` after the prefix.
-use Rattle.std.specs.Prelude.{◌≡◌, ◌<◌, ◌≢◌, ◌==◌, ◌||◌, ℕ, Bool, true, false, if◌then◌else◌, All, codes, drop, length, List, [], ◌∷◌, ◌++◌, Option, None, Some}
+use Rattle.std.specs.Prelude.{◌≡◌, ◌<◌, ◌≢◌, ◌==◌, ◌||◌, ℕ, Bool, if◌then◌else◌, All, codes, drop, length, List, [], ◌∷◌, ◌++◌, Option, None, Some}
 use Rattle.std.specs.List.{starts_with, ends_with, list_any, slice_split, after_last, before_first}
 use Rattle.std.specs.Str.{bytes_eq}
 use Rattle.pl_urn.specs.Cut.{colon, cut, has_cut, before_cut, after_cut}
 use Rattle.pl_urn.specs.declared.fault.UrnFault.{UrnFault}
 use Rattle.pl_urn.specs.declared.fault.UrnFault.TheVariants.{NoPrefix, TooFewParts, EmptyPart, BadType, OutOfMemory}
 
-abbrev pub is_none : List ℕ → Bool
-is_none [] = true
-is_none (b ∷ bs) = false
+-- whether a text is empty
+abbrev pub is_empty : List ℕ → Bool
+is_empty text = length text == 0
 
 -- what stands before a URN's stack
 abbrev pub urn_prefix : List ℕ
@@ -62,15 +62,15 @@ package_of text = type_package (own_type_of text)
 
 -- whether a piece of a qualified type is empty
 unfoldable pub has_empty_piece : List ℕ → Bool
-has_empty_piece kind = list_any is_none (slice_split is_dollar kind)
+has_empty_piece kind = list_any is_empty (slice_split is_dollar kind)
 
 -- the first of the four parts that is empty
 abbrev pub empty_part : List ℕ → List ℕ → List ℕ → List ℕ → Option UrnFault
 empty_part stack project kind name =
-    if is_none stack then Some (EmptyPart 0)
-    else (if is_none project then Some (EmptyPart 1)
+    if is_empty stack then Some (EmptyPart 0)
+    else (if is_empty project then Some (EmptyPart 1)
     else (if has_empty_piece kind then Some (EmptyPart 2)
-    else (if is_none name then Some (EmptyPart 3)
+    else (if is_empty name then Some (EmptyPart 3)
     else None)))
 
 -- why a text is no URN, if it is none; a third `::` follows only where two others do
@@ -102,17 +102,17 @@ pub record IsScope (text : List ℕ) : Type 0 where
 -- whether a type may not be a child's own
 unfoldable pub is_bad_type : List ℕ → Bool
 is_bad_type kind =
-    is_none kind || has_cut kind || list_any is_dollar kind || ends_with (λ a b. a == b) kind (colon ∷ [])
+    is_empty kind || has_cut kind || list_any is_dollar kind || ends_with (λ a b. a == b) kind (colon ∷ [])
 
 -- why there is no child of this type and name
 abbrev pub child_fault : List ℕ → List ℕ → Option UrnFault
 child_fault kind name =
     if is_bad_type kind then Some BadType
-    else (if is_none name then Some (EmptyPart 3) else None)
+    else (if is_empty name then Some (EmptyPart 3) else None)
 
--- the qualified type that stands above a child: that of its parent, and none below a stack's own row
-abbrev pub type_above : List ℕ → List ℕ → Option (List ℕ)
-type_above own qualified = if bytes_eq own stack_type then None else Some qualified
+-- what stands above a child, by its parent's qualified type: all of it, and nothing below a stack's own row
+abbrev pub type_above : List ℕ → Option (List ℕ)
+type_above qualified = if bytes_eq (after_last is_dollar qualified) stack_type then None else Some qualified
 
 -- the own type below another, joined by `$`
 abbrev pub type_below : Option (List ℕ) → List ℕ → List ℕ
@@ -122,11 +122,12 @@ type_below (Some above) kind = above ++ 36 ∷ kind
 -- a child's qualified type
 abbrev pub child_type : Option (List ℕ) → List ℕ → List ℕ
 child_type None kind = kind
-child_type (Some parent) kind = type_below (type_above (own_type_of parent) (qualified_type_of parent)) kind
+child_type (Some parent) kind = type_below (type_above (qualified_type_of parent)) kind
 
 -- a URN of these four parts
 abbrev pub text_of : List ℕ → List ℕ → List ℕ → List ℕ → List ℕ
-text_of stack project kind name = urn_prefix ++ stack ++ cut ++ project ++ cut ++ kind ++ cut ++ name
+text_of stack project kind name =
+    urn_prefix ++ (stack ++ (cut ++ (project ++ (cut ++ (kind ++ (cut ++ name))))))
 
 abbrev pub child_text : Option (List ℕ) → List ℕ → List ℕ → List ℕ → List ℕ → List ℕ
 child_text parent stack project kind name = text_of stack project (child_type parent kind) name

@@ -2,7 +2,7 @@ use std::alloc::AllocError;
 use thiserror::Error;
 
 /// Why a text is no URN, or why there is no such child.
-#[derive(Debug, Drop, Error)]
+#[derive(Clone, Copy, Debug, PartialEq, Eq, Error)]
 pub enum UrnFault {
     /// The text does not begin with `urn:pulumi:`.
     #[error("no prefix of a URN")]

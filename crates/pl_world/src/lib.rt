@@ -2,6 +2,7 @@
 //! what each may do and what of it is told.
 #![tactic(auto)]
 
+mod frames;
 mod gate;
 mod ids;
 mod pipe;
@@ -10,6 +11,7 @@ mod spawner;
 mod store;
 mod trouble;
 
+pub use frames::{FrameIn, MAX_BODY, read_frame, write_frame};
 pub use gate::{Gate, Place};
 pub use ids::Ids;
 pub use pipe::Pipe;

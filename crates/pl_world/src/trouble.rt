@@ -1,4 +1,5 @@
 use pl_value::OutOfMemory;
+use std::alloc::AllocError;
 use thiserror::Error;
 
 /// The outside did not do what it was asked to.
@@ -25,5 +26,27 @@ impl From<OutOfMemory> for Trouble {
 
     fn from(_error: OutOfMemory) -> Trouble {
         Trouble::OutOfMemory
+    }
+}
+
+impl From<AllocError> for Trouble {
+    ghost use Rattle.std.specs.Prelude.{◌≡◌};
+    ghost use Rattle.pl_world.specs.declared.trouble.Trouble.{Trouble};
+
+    ghost from_gives = { λ _ trouble. trouble ≡ Trouble.OutOfMemory };
+
+    fn from(_error: AllocError) -> Trouble {
+        Trouble::OutOfMemory
+    }
+}
+
+impl From<Failed> for Trouble {
+    ghost use Rattle.std.specs.Prelude.{◌≡◌};
+    ghost use Rattle.pl_world.specs.declared.trouble.Trouble.{Trouble};
+
+    ghost from_gives = { λ _ trouble. trouble ≡ Trouble.Failed };
+
+    fn from(_error: Failed) -> Trouble {
+        Trouble::Failed
     }
 }

@@ -1,0 +1,5 @@
+pub mod Table
+pub mod Word
+pub mod Place
+pub mod Reading
+pub mod Command

@@ -1,0 +1,65 @@
+-- The words of the command line as a whole.
+use Rattle.std.specs.Prelude.{◌≡◌, ◌==◌, ◌+◌, ◌-◌, ℕ, List, [], ◌∷◌, Bool, true, false, not, ◌&&◌, ◌||◌, Option, Some, None, length, nat_le, find, if◌then◌else◌}
+use Rattle.std.specs.List.{list_all, range_with_len, before_first, after_first}
+use Rattle.std.specs.Option.{option_or}
+use Rattle.std.specs.Str.{bytes_eq}
+use Rattle.pl_cli.specs.Table.{commands, command_text, options_of, forms_of, host_rule_of}
+use Rattle.pl_cli.specs.Word.{is_separator}
+use Rattle.pl_cli.specs.Place.{word_at, is_given, positional_before, may_stand}
+use Rattle.pl_cli.specs.declared.table.CommandName.{CommandName}
+use Rattle.pl_cli.specs.declared.table.HostRule.{HostRule}
+use Rattle.pl_cli.specs.declared.table.HostRule.TheVariants.{OneOrMore, Nothing}
+
+-- the words before the first separator
+abbrev pub engine_words : List (List ℕ) → List (List ℕ)
+engine_words words = before_first is_separator words
+
+-- the words after the first separator, which are the host's command
+abbrev pub host_words : List (List ℕ) → List (List ℕ)
+host_words words = after_first is_separator words
+
+-- the command of this spelling
+abbrev pub command_named : List ℕ → Option CommandName
+command_named word = find (λ command. bytes_eq (command_text command) word) commands
+
+-- the command of the words: the first one spells it
+abbrev pub command_of : List (List ℕ) → Option CommandName
+command_of words = command_named (word_at (engine_words words) 0)
+
+-- whether a command takes these host words
+abbrev pub host_words_fit : HostRule → List (List ℕ) → Bool
+host_words_fit OneOrMore [] = false
+host_words_fit OneOrMore (_ ∷ _) = true
+host_words_fit Nothing [] = true
+host_words_fit Nothing (_ ∷ _) = false
+
+-- whether each option that the command requires is given
+abbrev pub options_given : CommandName → List (List ℕ) → Bool
+options_given command words = list_all (λ row. not row.required || is_given row.option words) (options_of command)
+
+-- whether nothing is missing: each required option, each positional word, and host words as the command
+-- takes them
+unfoldable pub is_complete : CommandName → List (List ℕ) → List (List ℕ) → Bool
+is_complete command words host =
+    options_given command words
+    && nat_le (length (forms_of command)) (positional_before command words (length words))
+    && host_words_fit (host_rule_of command) host
+
+-- the least place of a word that may not stand there
+unfoldable pub misplaced_word : CommandName → List (List ℕ) → Option ℕ
+misplaced_word command words = find (λ place. not (may_stand command words place)) (range_with_len 0 (length words))
+
+-- the place of the fault, for the words of a known command: the least place of a word that may not stand
+-- there, and where each may but something is missing, the number of words before the separator
+abbrev pub fault_place : CommandName → List (List ℕ) → List (List ℕ) → Option ℕ
+fault_place command words host =
+    option_or (misplaced_word command words) (if is_complete command words host then None else Some (length words))
+
+-- the same for any words: where the first one is no command, or there is none, its place is the fault's
+abbrev pub fault_place_under : Option CommandName → List (List ℕ) → List (List ℕ) → Option ℕ
+fault_place_under None words host = Some 0
+fault_place_under (Some command) words host = fault_place command words host
+
+-- the place at which these words are refused, or none where they are a command
+abbrev pub bad_place : List (List ℕ) → Option ℕ
+bad_place words = fault_place_under (command_of words) (engine_words words) (host_words words)

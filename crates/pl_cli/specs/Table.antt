@@ -1,0 +1,50 @@
+-- The table of the command line: the commands with their positional words, options and host words.
+use Rattle.std.specs.Prelude.{◌==◌, ℕ, List, [], ◌∷◌, Bool, true, false, not, ◌&&◌, Option, Some, None, codes}
+use Rattle.std.specs.List.{list_any}
+use Rattle.pl_cli.specs.declared.table.CommandName.{CommandName}
+use Rattle.pl_cli.specs.declared.table.CommandName.TheVariants.{Up}
+use Rattle.pl_cli.specs.declared.table.OptionName.{OptionName}
+use Rattle.pl_cli.specs.declared.table.OptionName.TheVariants.{Stack, Project}
+use Rattle.pl_cli.specs.declared.table.Form.{Form}
+use Rattle.pl_cli.specs.declared.table.Form.TheVariants.{NoColon}
+use Rattle.pl_cli.specs.declared.table.HostRule.{HostRule}
+use Rattle.pl_cli.specs.declared.table.HostRule.TheVariants.{OneOrMore}
+use Rattle.pl_cli.specs.declared.table.OptionRow.{OptionRow}
+
+-- all commands
+abbrev pub commands : List CommandName
+commands = Up ∷ []
+
+-- how a command is spelled
+abbrev pub command_text : CommandName → List ℕ
+command_text Up = codes "up"
+
+-- how an option is spelled
+abbrev pub option_text : OptionName → List ℕ
+option_text Stack = codes "--stack"
+option_text Project = codes "--project"
+
+-- an option that has to be given, once, with a value of this form
+abbrev pub required_once : OptionName → Form → OptionRow
+required_once option form = record { option = option; required = true; repeatable = false; value = Some form }
+
+-- the options that a command knows
+abbrev pub options_of : CommandName → List OptionRow
+options_of Up = required_once Stack NoColon ∷ required_once Project NoColon ∷ []
+
+-- the forms of a command's positional words, in order
+abbrev pub forms_of : CommandName → List Form
+forms_of Up = []
+
+-- which host words a command takes
+abbrev pub host_rule_of : CommandName → HostRule
+host_rule_of Up = OneOrMore
+
+-- whether nothing is in the word
+abbrev pub is_empty_word : List ℕ → Bool
+is_empty_word [] = true
+is_empty_word (_ ∷ _) = false
+
+-- whether a value or a positional word has the form; an empty word has none
+abbrev pub fits : Form → List ℕ → Bool
+fits NoColon word = not (is_empty_word word) && not (list_any (λ byte. byte == 58) word)

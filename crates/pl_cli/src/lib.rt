@@ -1,0 +1,10 @@
+//! The words of the command line, read into a command, each refusal at its place.
+#![tactic(auto)]
+
+mod command;
+mod place;
+mod read;
+mod table;
+
+pub use command::{Command, RunWords, WordFault};
+pub use read::read_words;

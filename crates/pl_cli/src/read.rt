@@ -1,0 +1,138 @@
+ghost use Rattle.std.specs.Prelude.{◌≡◌, ◌<◌, IfErr, IfOk, IfSome, IsSome, OnOk, Some, None, length, map, position, string_bytes};
+ghost use Rattle.pl_cli.specs.Word.{is_separator};
+ghost use Rattle.pl_cli.specs.Place.{given_value};
+ghost use Rattle.pl_cli.specs.Reading.{bad_place, command_of, engine_words, fault_place, host_words, host_words_fit, is_complete, misplaced_word, options_given};
+ghost use Rattle.pl_cli.specs.Command.{IfUp, IsRefusedAt, name_of};
+
+use crate::command::{Command, RunWords, WordFault};
+use crate::place::{given_value, may_stand, positional_before, word_at};
+use crate::table::{CommandName, HostRule, OptionName, command_named};
+use pl_value::{OutOfMemory, Text, Words};
+use std::alloc::Global;
+
+/// Reads the words of the command line, without the program's own name.
+#[tactic(auto, using(crate::proofs::Completeness::given_stack, crate::proofs::Completeness::given_project))]
+pub fn read_words(alloc: Global, words: &[String]) -> Result<Command, WordFault>
+    ensures refused { IfErr result (IsRefusedAt (bad_place (map string_bytes words.now))) }
+    ensures accepted { OnOk result (bad_place (map string_bytes words.now) ≡ None) }
+    ensures command { IfOk result (λ command. command_of (map string_bytes words.now) ≡ Some (name_of command)) }
+    ensures stack {
+        IfOk result (IfUp (λ run.
+            given_value OptionName.Stack (engine_words (map string_bytes words.now)) ≡ Some run.stack)) }
+    ensures project {
+        IfOk result (IfUp (λ run.
+            given_value OptionName.Project (engine_words (map string_bytes words.now)) ≡ Some run.project)) }
+    ensures host { IfOk result (IfUp (λ run. run.host ≡ host_words (map string_bytes words.now))) }
+{
+    let (engine, host) = split_words(words);
+    let Some(command) = command_named(word_at(engine, 0)) else {
+        return Err(WordFault::BadWords(0));
+    };
+    if let Some(place) = fault_place(command, engine, host) {
+        return Err(WordFault::BadWords(place as u64));
+    }
+    match command {
+        CommandName::Up => Ok(Command::Up(run_words(alloc, engine, host)?)),
+    }
+}
+
+/// The place of the first separator.
+fn separator_place(words: &[String]) -> Option<usize>
+    ensures place { result ≡ position (λ word. is_separator (string_bytes word)) words.now }
+    ensures within { IfSome result (λ place. place < length words.now) }
+{
+    words.iter().position(|word| word.as_str() == "--")
+}
+
+/// The words before the first separator, and those after it.
+fn split_words(words: &[String]) -> (&[String], &[String])
+    ensures engine { map string_bytes result.0.now ≡ engine_words (map string_bytes words.now) }
+    ensures host { map string_bytes result.1.now ≡ host_words (map string_bytes words.now) }
+{
+    match separator_place(words) {
+        Some(place) => (&words[..place], &words[place + 1..]),
+        None => (words, &[]),
+    }
+}
+
+/// The fault's place, for the words of a known command.
+fn fault_place(command: CommandName, words: &[String], host: &[String]) -> Option<usize>
+    ensures { result ≡ fault_place command (map string_bytes words.now) (map string_bytes host.now) }
+{
+    match misplaced_word(command, words) {
+        Some(place) => Some(place),
+        None if is_complete(command, words, host) => None,
+        None => Some(words.len()),
+    }
+}
+
+/// The least place of a word that may not stand there.
+fn misplaced_word(command: CommandName, words: &[String]) -> Option<usize>
+    ensures { result ≡ misplaced_word command (map string_bytes words.now) }
+{
+    for place in 0..words.len() {
+        if !may_stand(command, words, place) {
+            return Some(place);
+        }
+    }
+    None
+}
+
+/// Whether each option that the command requires is given.
+fn options_given(command: CommandName, words: &[String]) -> bool
+    ensures { result ≡ options_given command (map string_bytes words.now) }
+{
+    command
+        .options()
+        .iter()
+        .all(|row| !row.required || given_value(row.option, words).is_some())
+}
+
+/// Whether nothing is missing.
+#[tactic(auto, using(crate::proofs::Lists::slice_rules), unfolding(crate::specs::Reading::is_complete))]
+fn is_complete(command: CommandName, words: &[String], host: &[String]) -> bool
+    ensures { result ≡ is_complete command (map string_bytes words.now) (map string_bytes host.now) }
+{
+    let options_given = options_given(command, words);
+    let positional = positional_before(command, words, words.len());
+    let positional_given = command.positional().len() <= positional;
+    let host_fits = host_words_fit(command.host_rule(), host);
+    options_given && positional_given && host_fits
+}
+
+fn host_words_fit(rule: HostRule, host: &[String]) -> bool
+    ensures { result ≡ host_words_fit rule (map string_bytes host.now) }
+{
+    match rule {
+        HostRule::OneOrMore => !host.is_empty(),
+        HostRule::Nothing => host.is_empty(),
+    }
+}
+
+fn run_words(alloc: Global, words: &[String], host: &[String]) -> Result<RunWords, OutOfMemory>
+    requires stack { IsSome (given_value OptionName.Stack (map string_bytes words.now)) }
+    requires project { IsSome (given_value OptionName.Project (map string_bytes words.now)) }
+    ensures stack {
+        IfOk result (λ run. given_value OptionName.Stack (map string_bytes words.now) ≡ Some run.stack) }
+    ensures project {
+        IfOk result (λ run. given_value OptionName.Project (map string_bytes words.now) ≡ Some run.project) }
+    ensures host { IfOk result (λ run. run.host ≡ map string_bytes host.now) }
+{
+    let stack = given_value(OptionName::Stack, words).unwrap();
+    let project = given_value(OptionName::Project, words).unwrap();
+    Ok(RunWords {
+        stack: Text::from_str(alloc, stack)?,
+        project: Text::from_str(alloc, project)?,
+        host: copy_words(alloc, host)?,
+    })
+}
+
+fn copy_words(alloc: Global, words: &[String]) -> Result<Words, OutOfMemory>
+    ensures { IfOk result (λ made. made ≡ map string_bytes words.now) }
+{
+    let mut made = Words::new(alloc);
+    for word in words {
+        made.push(Text::from_str(alloc, word.as_str())?)?;
+    }
+    Ok(made)
+}

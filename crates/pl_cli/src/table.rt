@@ -1,0 +1,123 @@
+ghost use Rattle.std.specs.Prelude.{◌≡◌, find, IsTrue};
+ghost use Rattle.std.specs.Str.{bytes_eq};
+ghost use Rattle.pl_cli.specs.Table.{command_text, commands, fits, forms_of, host_rule_of, option_text, options_of};
+
+/// The commands, each a row of the table: its spelling, its positional words, its options and its rule for
+/// the host's words.
+#[derive(Clone, Copy, Debug, PartialEq, Eq)]
+pub enum CommandName {
+    Up,
+}
+
+/// The options of all commands.
+#[derive(Clone, Copy, Debug, PartialEq, Eq)]
+pub enum OptionName {
+    Stack,
+    Project,
+}
+
+/// What a value or a positional word is like. None of them is empty.
+#[derive(Clone, Copy, Debug, PartialEq, Eq)]
+pub enum Form {
+    /// A part of a URN, which holds no `:`.
+    NoColon,
+}
+
+/// Which words of the host a command takes.
+#[derive(Clone, Copy, Debug, PartialEq, Eq)]
+pub enum HostRule {
+    OneOrMore,
+    Nothing,
+}
+
+/// An option of a command. One whose value has no form is a flag.
+#[derive(Clone, Copy, Debug, PartialEq, Eq)]
+pub struct OptionRow {
+    pub option: OptionName,
+    pub required: bool,
+    pub repeatable: bool,
+    pub value: Option<Form>,
+}
+
+const COMMANDS: [CommandName; 1] = [CommandName::Up];
+
+const UP_OPTIONS: [OptionRow; 2] = [
+    OptionRow {
+        option: OptionName::Stack,
+        required: true,
+        repeatable: false,
+        value: Some(Form::NoColon),
+    },
+    OptionRow {
+        option: OptionName::Project,
+        required: true,
+        repeatable: false,
+        value: Some(Form::NoColon),
+    },
+];
+
+/// The command of this spelling.
+pub fn command_named(word: &str) -> Option<CommandName>
+    ensures { result ≡ find (λ command. bytes_eq (command_text command) word.now) commands }
+{
+    COMMANDS
+        .iter()
+        .copied()
+        .find(|command| command.text() == word)
+}
+
+impl CommandName {
+    pub fn text(self) -> &'static str
+        ensures { result.now ≡ command_text self }
+    {
+        match self {
+            CommandName::Up => "up",
+        }
+    }
+
+    /// The forms of the positional words, in order, each of which has to be there.
+    pub fn positional(self) -> &'static [Form]
+        ensures { result.now ≡ forms_of self }
+    {
+        match self {
+            CommandName::Up => &[],
+        }
+    }
+
+    pub fn options(self) -> &'static [OptionRow]
+        ensures { result.now ≡ options_of self }
+    {
+        match self {
+            CommandName::Up => &UP_OPTIONS,
+        }
+    }
+
+    pub fn host_rule(self) -> HostRule
+        ensures { result ≡ host_rule_of self }
+    {
+        match self {
+            CommandName::Up => HostRule::OneOrMore,
+        }
+    }
+}
+
+impl OptionName {
+    pub fn text(self) -> &'static str
+        ensures { result.now ≡ option_text self }
+    {
+        match self {
+            OptionName::Stack => "--stack",
+            OptionName::Project => "--project",
+        }
+    }
+}
+
+impl Form {
+    pub fn fits(self, word: &str) -> bool
+        ensures { result ≡ fits self word.now }
+    {
+        match self {
+            Form::NoColon => !word.is_empty() && !word.as_bytes().contains(&b':'),
+        }
+    }
+}

@@ -1,0 +1,108 @@
+-- What is due after a request is told, and what is left when it was worked on.
+use Rattle.std.proofs.Common.{◌≡◌, ◌⊎◌, ℕ, ◌+◌, ◌-◌, ◌<◌, ◌≤◌, Bool, true, false, ◌||◌, ◌&&◌, not, is_none, is_some, List, [], ◌∷◌, ◌++◌, length, map, reverse, Option, Some, None, refl, sym, ◌∙◌, ap, subst, inl, inr, arith, ◌==◌, nat_lt}
+use Rattle.std.proofs.lemmas.Grind.{common_steps}
+use Rattle.std.proofs.lemmas.Bool.Decides.{nat_tests}
+use Rattle.std.proofs.lemmas.List.{length-map, length-reverse}
+use Rattle.std.specs.List.{list_any}
+use Rattle.std.specs.Str.{bytes_eq}
+use Rattle.pl_state.specs.declared.goal.Goal.{Goal}
+use Rattle.pl_state.specs.declared.goal.Registration.{Registration}
+use Rattle.pl_state.specs.declared.entry.Entry.{Entry}
+use Rattle.pl_events.specs.declared.event.Event.{Event}
+use Rattle.pl_events.specs.declared.event.Stop.{Stop}
+use Rattle.pl_model.specs.Run.{Fixed, Spelling, most_resources}
+use Rattle.pl_model.specs.Problems.{has_problem}
+use Rattle.pl_model.specs.Requests.{Waiting, goal_at, goal_for, goals_of, has_goal, has_parent, is_acceptable, made_for, may_stand, waiting_of}
+use Rattle.pl_model.specs.Entries.{entry_if, entry_of, has_entry, new_entries, unrecorded_of}
+use Rattle.pl_model.specs.Due.{NothingDue, is_keep_due, is_over_limit, is_post_due, is_ready, parent_stands, result_of}
+use Rattle.pl_engine.specs.Journal.{kept_event, posted_event, stop_event, told_event}
+
+-- a number is itself
+pub same_number : (n : ℕ) → (n == n) ≡ true
+same_number n = grind (arith, nat_tests)
+
+and_false : (a : Bool) → (a && false) ≡ false
+and_false true = refl
+and_false false = refl
+
+or_true : (a : Bool) → (a || true) ≡ true
+or_true true = refl
+or_true false = refl
+
+module _ (run : Fixed) (n : ℕ) (told : Registration) (past : List Event) where
+
+  -- the goal that the request makes, and its number
+  abbrev made : Goal
+  made = goal_for run told
+
+  abbrev number : ℕ
+  number = length (goals_of run past)
+
+  abbrev after : List Event
+  after = told_event n told ∷ past
+
+  pub goals-told : has_problem past ≡ false → goals_of run after ≡ made ∷ goals_of run past
+  goals-told free = rw free
+
+  pub unrecorded-told : has_problem past ≡ false → unrecorded_of run past ≡ [] → unrecorded_of run after ≡ number ∷ []
+  unrecorded-told free none = rw (free, none)
+
+  pub waiting-told : has_problem past ≡ false → waiting_of run past ≡ []
+      → waiting_of run after ≡ record { number = n; made = Some number } ∷ []
+  waiting-told free none = rw (free, none)
+
+  pub goal_at-told : has_problem past ≡ false → goal_at (goals_of run after) number ≡ Some made
+  goal_at-told free = rw (goals-told free, same_number number)
+
+  pub is_ready-told : has_problem past ≡ false → unrecorded_of run past ≡ []
+      → parent_stands (new_entries run past) told.parent ≡ true → is_ready run after number ≡ true
+  is_ready-told free none parent =
+    rw (unrecorded-told free none, goal_at-told free, same_number number, parent, free)
+
+  pub entry_if-told : has_problem past ≡ false → entry_if (goal_at (goals_of run after) number) ≡ entry_of made ∷ []
+  entry_if-told free = rw (goal_at-told free)
+
+  -- a goal that is not recorded is no result
+  result-unrecorded : (m : ℕ) → has_problem past ≡ false → unrecorded_of run past ≡ [] → waiting_of run past ≡ []
+      → result_of run after m ≡ None
+  result-unrecorded m free none idle = by_case (n == m) refl
+    where
+      by_case : (b : Bool) → (n == m) ≡ b → result_of run after m ≡ None
+      by_case true is = rw (free, is, none, same_number number)
+      by_case false is = rw (is, idle)
+
+  -- before the new goal is recorded no answer is due, and with a full state nothing at all is
+  pub NothingDue-told : has_problem past ≡ false → unrecorded_of run past ≡ [] → waiting_of run past ≡ []
+      → nat_lt (length (new_entries run past)) most_resources ≡ false → NothingDue run after
+  NothingDue-told free none idle full = record {
+    no_post = λ m. rw (result-unrecorded m free none idle, free, and_false);
+    no_keep = λ g. rw (full, and_false) }
+
+module _ (run : Fixed) (n number : ℕ) (goal : Goal) (history : List Event) where
+
+  abbrev awaiting : List Waiting
+  awaiting = record { number = n; made = Some number } ∷ []
+
+  -- once its goal is recorded a request has its result, whatever stops came
+  pub result-recorded : waiting_of run history ≡ awaiting → unrecorded_of run history ≡ [] → goal_at (goals_of run history) number ≡ Some goal
+      → result_of run history n ≡ Some goal
+  result-recorded waits none there = rw (waits, same_number n, none, there)
+
+  pub is_post_due-recorded : waiting_of run history ≡ awaiting → unrecorded_of run history ≡ [] → goal_at (goals_of run history) number ≡ Some goal
+      → is_post_due run history n ≡ true
+  is_post_due-recorded waits none there = rw (result-recorded waits none there, waits, same_number n)
+
+-- a request that waits alone and made this goal or none is answered after a problem
+pub is_post_due-problem : (run : Fixed) (n : ℕ) (made : Option ℕ) (history : List Event)
+    → waiting_of run history ≡ record { number = n; made = made } ∷ [] → has_problem history ≡ true → is_post_due run history n ≡ true
+is_post_due-problem run n made history waits problem = rw (waits, same_number n, problem, or_true)
+
+pub result-halted : (run : Fixed) (n : ℕ) (history : List Event)
+    → waiting_of run history ≡ record { number = n; made = None } ∷ [] → result_of run history n ≡ None
+result-halted run n history waits = rw (waits, same_number n)
+
+-- a goal that was told and not recorded is no result
+pub result-stopped : (run : Fixed) (n number : ℕ) (history : List Event)
+    → waiting_of run history ≡ record { number = n; made = Some number } ∷ [] → unrecorded_of run history ≡ number ∷ []
+    → result_of run history n ≡ None
+result-stopped run n number history waits left = rw (waits, same_number n, left, same_number number)

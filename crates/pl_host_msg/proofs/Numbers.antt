@@ -1,0 +1,54 @@
+-- What a caller knows of a word that was read.
+use Rattle.std.proofs.Common.{◌≡◌, ℕ, ◌^◌, ◌≤◌, ◌&&◌, nat_le, cond, List, codes, Bool, true, false, Option, Some, None, option_map, option_and_then, refl, sym, ap, ◌∙◌, arith, tests}
+use Rattle.serde_json.specs.Data.{Data}
+use Rattle.pl_state.specs.declared.goal.Registration.{Registration}
+use Rattle.pl_events.specs.declared.event.Request.{Request}
+use Rattle.pl_events.specs.declared.event.Request.TheVariants.{Register}
+use Rattle.pl_host_msg.specs.declared.word.HostWord.TheVariants.{Request as Asks, Success}
+use Rattle.pl_host_msg.specs.Field.{field, text, plain_type, whole, request_number, optional_text, if_passing}
+use Rattle.pl_host_msg.specs.Word.{has_defaults, json_of, register_of, word_of, word_of_data}
+
+-- where two steps gave a value, the first gave one and the second made the value of it
+both_steps : {A B : Type 0} (f : A → Option B) (o : Option A) (y : B) → option_and_then f o ≡ Some y → (x : A) × (o ≡ Some x) × (f x ≡ Some y)
+both_steps f None y e = absurd cc
+both_steps f (Some x) y e = (x, refl, e)
+
+passed : {A : Type 0} (test : A → Bool) (b : Bool) (x y : A) → test x ≡ b → cond b (Some x) None ≡ Some y → test y ≡ true
+passed test true x y is e = let same : x ≡ y = cc in ap test (sym same) ∙ is
+passed test false x y is e = absurd cc
+
+request_number_in_range : (value : Option Data) (n : ℕ) → request_number value ≡ Some n → (1 ≤ n) × (n ≤ 2 ^ 53)
+request_number_in_range value n e =
+    let step = both_steps (if_passing (λ n. nat_le 1 n && nat_le n (2 ^ 53))) (whole value) n e in
+    let ok = passed (λ n. nat_le 1 n && nat_le n (2 ^ 53)) _ step.0 n refl step.2 in
+    (grind (arith, tests), grind (arith, tests))
+
+-- the request that a registration's word is for
+request_called : (done register : Bool) (read : Option Request) (request : Request)
+    → cond done (Some Success) (cond register (option_map Asks read) None) ≡ Some (Asks request) → read ≡ Some request
+request_called true register read request e = absurd cc
+request_called false true None request e = absurd cc
+request_called false true (Some r) request e = cc
+request_called false false read request e = absurd cc
+
+same_number : (b : Bool) (n m : ℕ) (read told : Registration) → cond b (Some (Register n read)) None ≡ Some (Register m told) → n ≡ m
+same_number true n m read told e = cc
+same_number false n m read told e = absurd cc
+
+register_of-number : (message : Data) (n : ℕ) (told : Registration) → register_of message ≡ Some (Register n told) → request_number (field (codes "n") message) ≡ Some n
+unfolding register_of
+register_of-number message n told e =
+    let number = both_steps _ (request_number (field (codes "n") message)) _ e in
+    let kind = both_steps _ (plain_type (field (codes "type") message)) _ number.2 in
+    let name = both_steps _ (text (field (codes "name") message)) _ kind.2 in
+    let parent = both_steps _ (optional_text (field (codes "parent") message)) _ name.2 in
+    number.1 ∙ ap Some (same_number (has_defaults message) _ _ _ _ parent.2)
+
+-- the number of a request that was read is one from 1 to 2^53
+pub word_number_in_range : (bytes : List ℕ) (n : ℕ) (told : Registration) → word_of bytes ≡ Some (Asks (Register n told)) → (1 ≤ n) × (n ≤ 2 ^ 53)
+unfolding word_of word_of_data
+word_number_in_range bytes n told e =
+    let read = both_steps word_of_data (json_of bytes) _ e in
+    let called = both_steps _ (text (field (codes "call") read.0)) _ read.2 in
+    let request = request_called _ _ (register_of read.0) (Register n told) called.2 in
+    request_number_in_range (field (codes "n") read.0) n (register_of-number read.0 n told request)

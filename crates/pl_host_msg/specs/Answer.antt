@@ -1,0 +1,42 @@
+-- The text of an answer to a host.
+use Rattle.std.specs.Prelude.{ℕ, List, [], ◌∷◌, codes, ⊤}
+use Rattle.serde_json.specs.Data.{Data, number, unsigned, string, object, Members, no_members, member}
+use Rattle.serde_json.specs.Written.{compact_text}
+use Rattle.pl_events.specs.declared.event.Answer.{Answer}
+use Rattle.pl_events.specs.declared.event.Answer.TheVariants.{Registered, Refused}
+use Rattle.pl_host_msg.specs.declared.answer.MsgOut.{MsgOut}
+use Rattle.pl_host_msg.specs.declared.answer.MsgOut.TheVariants.{TooLong, OutOfMemory}
+
+-- how many bytes the body of a frame may have
+abbrev pub longest_body : ℕ
+longest_body = 4194304
+
+abbrev pub members_of : List (List ℕ × Data) → Members
+members_of [] = no_members
+members_of (m ∷ ms) = member m.0 m.1 (members_of ms)
+
+-- the object with these members, whose names rise
+abbrev pub object_of : List (List ℕ × Data) → Data
+object_of members = object (members_of members)
+
+-- the JSON value of the answer to request n
+abbrev pub answer_data : ℕ → Answer → Data
+answer_data n (Registered urn) =
+    object_of (
+    (codes "n", number (unsigned n))
+    ∷ (codes "ok", object_of ((codes "outputs", object_of []) ∷ (codes "urn", string urn) ∷ []))
+    ∷ [])
+answer_data n (Refused error) = object_of ((codes "error", string error) ∷ (codes "n", number (unsigned n)) ∷ [])
+
+-- the bytes of the answer to request n
+unfoldable pub answer_text : ℕ → Answer → List ℕ
+answer_text n answer = compact_text (answer_data n answer)
+
+-- the error of a request that the run no longer takes up
+abbrev pub halted : Answer
+halted = Refused (codes "halted")
+
+-- the fact, of the length, where a text was refused for it
+abbrev pub IfTooLong : MsgOut → (ℕ → Type 0) → Type 0
+IfTooLong (TooLong len) P = P len
+IfTooLong OutOfMemory P = ⊤

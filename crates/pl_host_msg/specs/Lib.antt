@@ -1,0 +1,4 @@
+pub mod Field
+pub mod Word
+pub mod Answer
+pub mod Told
