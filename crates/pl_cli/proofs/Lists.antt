@@ -1,5 +1,5 @@
 -- Lists of words seen as lists of their bytes, cut at the first word that passes a test.
-use Rattle.std.proofs.Common.{◌≡◌, ℕ, ◌+◌, ◌-◌, ◌≤◌, Bool, true, false, cond, not, nat_lt, List, [], ◌∷◌, Option, Some, None, length, map, position, take, drop, refl, ap, sym, ◌∙◌, arith}
+use Rattle.std.proofs.Common.{◌≡◌, ℕ, ◌+◌, ◌-◌, ◌≤◌, Bool, true, false, cond, not, nat_lt, List, [], ◌∷◌, Some, None, length, map, position, take, drop, refl, ap, sym, arith}
 use Rattle.std.specs.List.{after_first, before_first, position_or_len, prefix_len}
 use Rattle.std.proofs.lemmas.Bool.{ltb-false}
 use Rattle.std.proofs.lemmas.List.{drop-map, length-map, take-map, take_rest}

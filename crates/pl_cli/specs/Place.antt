@@ -1,10 +1,10 @@
 -- The places of the words before the separator: the role of each, and whether the word may stand there.
 -- A place counts from 0, and the list of words has those before the separator alone.
-use Rattle.std.specs.Prelude.{◌==◌, ◌+◌, ◌-◌, ℕ, zero, suc, List, [], ◌∷◌, Bool, true, false, not, ◌&&◌, ◌||◌, Option, Some, None, codes, length, take, slice_get, slice_index_or, nat_lt, nat_le, find, position, filter, is_some, option_map, unwrap_or, if◌then◌else◌}
-use Rattle.std.specs.List.{list_all, range_with_len}
+use Rattle.std.specs.Prelude.{◌==◌, ◌+◌, ◌-◌, ℕ, List, [], Bool, true, false, not, ◌&&◌, ◌||◌, Option, Some, None, length, take, slice_get, slice_index_or, nat_lt, position, count_by, is_some, option_map, unwrap_or, if◌then◌else◌}
+use Rattle.std.specs.List.{range_with_len}
 use Rattle.std.specs.Option.{option_map_or}
 use Rattle.std.specs.Str.{bytes_eq}
-use Rattle.pl_cli.specs.Table.{commands, command_text, option_text, options_of, forms_of, fits}
+use Rattle.pl_cli.specs.Table.{option_named, option_text, forms_of, fits}
 use Rattle.pl_cli.specs.Word.{begins_with_dash, name_part, own_value}
 use Rattle.pl_cli.specs.declared.table.CommandName.{CommandName}
 use Rattle.pl_cli.specs.declared.table.OptionName.{OptionName}
@@ -19,7 +19,7 @@ word_at words place = slice_index_or words place []
 
 -- the row of the option that the word names, if the command knows it
 abbrev pub option_row : CommandName → List ℕ → Option OptionRow
-option_row command word = find (λ row. bytes_eq (option_text row.option) (name_part word)) (options_of command)
+option_row command word = option_named command (name_part word)
 
 -- a known option without a value of its own waits for one, unless it is a flag
 abbrev pub form_wanted : Option OptionRow → Option (List ℕ) → Option Form
@@ -48,8 +48,8 @@ unfoldable pub role_of : CommandName → List (List ℕ) → ℕ → Role
 role_of command words place =
     if place == 0 then Command else
     (if begins_with_dash (word_at words place)
-     then dashed_role (option_row command (word_at words place))
-     else plain_role (form_after command (word_at words (place - 1))))
+    then dashed_role (option_row command (word_at words place))
+    else plain_role (form_after command (word_at words (place - 1))))
 
 -- whether the word is this option, with or without a value of its own
 abbrev pub names_option : OptionName → List ℕ → Bool
@@ -91,7 +91,7 @@ is_positional (Value _) = false
 -- how many positional words stand before a place
 unfoldable pub positional_before : CommandName → List (List ℕ) → ℕ → ℕ
 positional_before command words place =
-    length (filter (λ earlier. is_positional (role_of command words earlier)) (range_with_len 0 place))
+    count_by (λ earlier. is_positional (role_of command words earlier)) (range_with_len 0 place)
 
 -- whether a word at a place may stand there in this role
 abbrev pub may_stand_as : Role → CommandName → List (List ℕ) → ℕ → Bool

@@ -1,9 +1,8 @@
 -- The words of the command line as a whole.
-use Rattle.std.specs.Prelude.{◌≡◌, ◌==◌, ◌+◌, ◌-◌, ℕ, List, [], ◌∷◌, Bool, true, false, not, ◌&&◌, ◌||◌, Option, Some, None, length, nat_le, find, if◌then◌else◌}
+use Rattle.std.specs.Prelude.{ℕ, List, [], ◌∷◌, Bool, true, false, not, ◌&&◌, ◌||◌, Option, Some, None, length, nat_le, find, if◌then◌else◌}
 use Rattle.std.specs.List.{list_all, range_with_len, before_first, after_first}
 use Rattle.std.specs.Option.{option_or}
-use Rattle.std.specs.Str.{bytes_eq}
-use Rattle.pl_cli.specs.Table.{commands, command_text, options_of, forms_of, host_rule_of}
+use Rattle.pl_cli.specs.Table.{command_named, options_of, forms_of, host_rule_of}
 use Rattle.pl_cli.specs.Word.{is_separator}
 use Rattle.pl_cli.specs.Place.{word_at, is_given, positional_before, may_stand}
 use Rattle.pl_cli.specs.declared.table.CommandName.{CommandName}
@@ -17,10 +16,6 @@ engine_words words = before_first is_separator words
 -- the words after the first separator, which are the host's command
 abbrev pub host_words : List (List ℕ) → List (List ℕ)
 host_words words = after_first is_separator words
-
--- the command of this spelling
-abbrev pub command_named : List ℕ → Option CommandName
-command_named word = find (λ command. bytes_eq (command_text command) word) commands
 
 -- the command of the words: the first one spells it
 abbrev pub command_of : List (List ℕ) → Option CommandName

@@ -1,6 +1,7 @@
 -- The table of the command line: the commands with their positional words, options and host words.
-use Rattle.std.specs.Prelude.{◌==◌, ℕ, List, [], ◌∷◌, Bool, true, false, not, ◌&&◌, Option, Some, None, codes}
+use Rattle.std.specs.Prelude.{◌==◌, ℕ, List, [], ◌∷◌, Bool, true, false, not, ◌&&◌, Option, Some, codes, find}
 use Rattle.std.specs.List.{list_any}
+use Rattle.std.specs.Str.{bytes_eq}
 use Rattle.pl_cli.specs.declared.table.CommandName.{CommandName}
 use Rattle.pl_cli.specs.declared.table.CommandName.TheVariants.{Up}
 use Rattle.pl_cli.specs.declared.table.OptionName.{OptionName}
@@ -19,6 +20,10 @@ commands = Up ∷ []
 abbrev pub command_text : CommandName → List ℕ
 command_text Up = codes "up"
 
+-- the command of this spelling
+abbrev pub command_named : List ℕ → Option CommandName
+command_named word = find (λ command. bytes_eq (command_text command) word) commands
+
 -- how an option is spelled
 abbrev pub option_text : OptionName → List ℕ
 option_text Stack = codes "--stack"
@@ -31,6 +36,10 @@ required_once option form = record { option = option; required = true; repeatabl
 -- the options that a command knows
 abbrev pub options_of : CommandName → List OptionRow
 options_of Up = required_once Stack NoColon ∷ required_once Project NoColon ∷ []
+
+-- the row of the option of this spelling, if the command knows it
+abbrev pub option_named : CommandName → List ℕ → Option OptionRow
+option_named command name = find (λ row. bytes_eq (option_text row.option) name) (options_of command)
 
 -- the forms of a command's positional words, in order
 abbrev pub forms_of : CommandName → List Form

@@ -1,3 +1,5 @@
+ghost use Rattle.std.specs.Prelude.{◌≡◌, IfOk};
+
 use pl_value::{OutOfMemory, Text, Words};
 use thiserror::Error;
 
@@ -10,10 +12,32 @@ pub struct RunWords {
     pub host: Words,
 }
 
+impl RunWords {
+    pub fn copy(&self) -> Result<RunWords, OutOfMemory>
+        ensures { IfOk result (λ made. made ≡ self.now) }
+    {
+        Ok(RunWords {
+            stack: self.stack.copy()?,
+            project: self.project.copy()?,
+            host: self.host.copy()?,
+        })
+    }
+}
+
 /// A command of the engine, with all that its words say.
 #[derive(Debug, Drop)]
 pub enum Command {
     Up(RunWords),
+}
+
+impl Command {
+    pub fn copy(&self) -> Result<Command, OutOfMemory>
+        ensures { IfOk result (λ made. made ≡ self.now) }
+    {
+        match self {
+            Command::Up(run) => Ok(Command::Up(run.copy()?)),
+        }
+    }
 }
 
 /// Why words are not read as a command.

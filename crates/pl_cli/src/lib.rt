@@ -8,3 +8,6 @@ mod table;
 
 pub use command::{Command, RunWords, WordFault};
 pub use read::read_words;
+
+#[cfg(test)]
+mod tests;

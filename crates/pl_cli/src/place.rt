@@ -1,9 +1,7 @@
-ghost use Rattle.std.specs.Prelude.{◌≡◌, ◌==◌, find, length, map, option_copied, option_map, position, IfSome, string_bytes, IsTrue, IsSome, Some};
-ghost use Rattle.std.specs.Prelude.{◌<◌};
-ghost use Rattle.std.specs.Str.{bytes_eq};
-ghost use Rattle.pl_cli.specs.Table.{option_text, options_of};
-ghost use Rattle.pl_cli.specs.Word.{begins_with_dash, is_separator, name_part, own_value};
-ghost use Rattle.pl_cli.specs.Place.{form_after, given_value, has_value, is_given, is_positional, may_stand, names_option, option_row, positional_before, role_of, value_at, value_follows, word_at};
+ghost use Rattle.std.specs.Prelude.{◌≡◌, ◌<◌, IfSome, length, map, option_map, position, string_bytes};
+ghost use Rattle.pl_cli.specs.Table.{option_named};
+ghost use Rattle.pl_cli.specs.Word.{begins_with_dash, name_part, own_value};
+ghost use Rattle.pl_cli.specs.Place.{form_after, given_value, has_value, is_positional, may_stand, names_option, positional_before, role_of, value_at, value_follows, word_at};
 
 use crate::table::{CommandName, Form, OptionName, OptionRow};
 
@@ -44,8 +42,9 @@ fn cut(word: &str) -> (&str, Option<&str>)
     }
 }
 
-fn option_row(command: CommandName, name: &str) -> Option<OptionRow>
-    ensures { result ≡ find (λ row. bytes_eq (option_text row.option) name.now) (options_of command) }
+/// The row of the option of this spelling, if the command knows it.
+fn option_named(command: CommandName, name: &str) -> Option<OptionRow>
+    ensures { result ≡ option_named command name.now }
 {
     command
         .options()
@@ -59,7 +58,7 @@ fn form_after(command: CommandName, word: &str) -> Option<Form>
     ensures { result ≡ form_after command word.now }
 {
     let (name, own_value) = cut(word);
-    match (option_row(command, name), own_value) {
+    match (option_named(command, name), own_value) {
         (Some(row), None) => row.value,
         _ => None,
     }
@@ -75,7 +74,7 @@ fn role_of(command: CommandName, words: &[String], place: usize) -> Role
     let word = word_at(words, place);
     if begins_with_dash(word) {
         let (name, _) = cut(word);
-        match option_row(command, name) {
+        match option_named(command, name) {
             Some(row) => Role::KnownOption(row),
             None => Role::UnknownOption,
         }

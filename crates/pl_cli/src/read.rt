@@ -16,12 +16,10 @@ pub fn read_words(alloc: Global, words: &[String]) -> Result<Command, WordFault>
     ensures refused { IfErr result (IsRefusedAt (bad_place (map string_bytes words.now))) }
     ensures accepted { OnOk result (bad_place (map string_bytes words.now) ≡ None) }
     ensures command { IfOk result (λ command. command_of (map string_bytes words.now) ≡ Some (name_of command)) }
-    ensures stack {
-        IfOk result (IfUp (λ run.
-            given_value OptionName.Stack (engine_words (map string_bytes words.now)) ≡ Some run.stack)) }
-    ensures project {
-        IfOk result (IfUp (λ run.
-            given_value OptionName.Project (engine_words (map string_bytes words.now)) ≡ Some run.project)) }
+    ensures stack { IfOk result (IfUp (λ run.
+        given_value OptionName.Stack (engine_words (map string_bytes words.now)) ≡ Some run.stack)) }
+    ensures project { IfOk result (IfUp (λ run.
+        given_value OptionName.Project (engine_words (map string_bytes words.now)) ≡ Some run.project)) }
     ensures host { IfOk result (IfUp (λ run. run.host ≡ host_words (map string_bytes words.now))) }
 {
     let (engine, host) = split_words(words);
@@ -82,10 +80,7 @@ fn misplaced_word(command: CommandName, words: &[String]) -> Option<usize>
 fn options_given(command: CommandName, words: &[String]) -> bool
     ensures { result ≡ options_given command (map string_bytes words.now) }
 {
-    command
-        .options()
-        .iter()
-        .all(|row| !row.required || given_value(row.option, words).is_some())
+    command.options().iter().all(|row| !row.required || given_value(row.option, words).is_some())
 }
 
 /// Whether nothing is missing.
@@ -112,10 +107,8 @@ fn host_words_fit(rule: HostRule, host: &[String]) -> bool
 fn run_words(alloc: Global, words: &[String], host: &[String]) -> Result<RunWords, OutOfMemory>
     requires stack { IsSome (given_value OptionName.Stack (map string_bytes words.now)) }
     requires project { IsSome (given_value OptionName.Project (map string_bytes words.now)) }
-    ensures stack {
-        IfOk result (λ run. given_value OptionName.Stack (map string_bytes words.now) ≡ Some run.stack) }
-    ensures project {
-        IfOk result (λ run. given_value OptionName.Project (map string_bytes words.now) ≡ Some run.project) }
+    ensures stack { IfOk result (λ run. given_value OptionName.Stack (map string_bytes words.now) ≡ Some run.stack) }
+    ensures project { IfOk result (λ run. given_value OptionName.Project (map string_bytes words.now) ≡ Some run.project) }
     ensures host { IfOk result (λ run. run.host ≡ map string_bytes host.now) }
 {
     let stack = given_value(OptionName::Stack, words).unwrap();

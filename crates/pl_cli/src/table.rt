@@ -1,6 +1,5 @@
-ghost use Rattle.std.specs.Prelude.{◌≡◌, find, IsTrue};
-ghost use Rattle.std.specs.Str.{bytes_eq};
-ghost use Rattle.pl_cli.specs.Table.{command_text, commands, fits, forms_of, host_rule_of, option_text, options_of};
+ghost use Rattle.std.specs.Prelude.{◌≡◌};
+ghost use Rattle.pl_cli.specs.Table.{command_named, command_text, fits, forms_of, host_rule_of, option_text, options_of};
 
 /// The commands, each a row of the table: its spelling, its positional words, its options and its rule for
 /// the host's words.
@@ -58,7 +57,7 @@ const UP_OPTIONS: [OptionRow; 2] = [
 
 /// The command of this spelling.
 pub fn command_named(word: &str) -> Option<CommandName>
-    ensures { result ≡ find (λ command. bytes_eq (command_text command) word.now) commands }
+    ensures { result ≡ command_named word.now }
 {
     COMMANDS
         .iter()

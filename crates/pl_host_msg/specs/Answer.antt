@@ -2,6 +2,7 @@
 use Rattle.std.specs.Prelude.{ℕ, List, [], ◌∷◌, codes, ⊤}
 use Rattle.serde_json.specs.Data.{Data, number, unsigned, string, object, Members, no_members, member}
 use Rattle.serde_json.specs.Written.{compact_text}
+use Rattle.pl_world.specs.declared.frames.TheConstants.{MAX_BODY}
 use Rattle.pl_events.specs.declared.event.Answer.{Answer}
 use Rattle.pl_events.specs.declared.event.Answer.TheVariants.{Registered, Refused}
 use Rattle.pl_host_msg.specs.declared.answer.MsgOut.{MsgOut}
@@ -9,7 +10,7 @@ use Rattle.pl_host_msg.specs.declared.answer.MsgOut.TheVariants.{TooLong, OutOfM
 
 -- how many bytes the body of a frame may have
 abbrev pub longest_body : ℕ
-longest_body = 4194304
+longest_body = MAX_BODY
 
 abbrev pub members_of : List (List ℕ × Data) → Members
 members_of [] = no_members

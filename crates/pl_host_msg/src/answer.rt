@@ -4,12 +4,13 @@ ghost use Rattle.pl_host_msg.specs.Answer.{answer_data, answer_text, halted, IfT
 
 use pl_events::Answer;
 use pl_value::{Bytes, OutOfMemory};
+use pl_world::MAX_BODY;
 use serde_json::{Value, json};
 use std::alloc::{AllocError, Global};
 use thiserror::Error;
 
 /// How many bytes the body of a frame may have.
-pub const LONGEST_BODY: usize = 4_194_304;
+pub const LONGEST_BODY: usize = MAX_BODY;
 
 /// Why a message was not written.
 #[derive(Debug, Drop, Error)]

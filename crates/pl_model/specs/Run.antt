@@ -2,6 +2,7 @@
 use Rattle.std.specs.Prelude.{◌≡◌, ℕ, Bool, Option, List}
 use Rattle.pl_events.specs.declared.event.Request.{Request}
 use Rattle.pl_events.specs.declared.event.Answer.{Answer}
+use Rattle.pl_world.specs.declared.frames.TheConstants.{MAX_BODY}
 use Rattle.pl_state.specs.declared.entries.Snapshot.{Snapshot}
 
 -- the names of the run's stack and project; the state at the start has no entry
@@ -26,4 +27,4 @@ most_resources = 10000
 
 -- the longest body that a frame may have, in bytes
 abbrev pub longest_body : ℕ
-longest_body = 4194304
+longest_body = MAX_BODY

@@ -1,12 +1,12 @@
-use Rattle.std.proofs.Common.{◌≡◌, ℕ, ◌+◌, ◌-◌, ◌<◌, ◌≤◌, List, [], ◌∷◌, ◌++◌, length, refl, sym, ◌∙◌, ap, subst, inl, inr, append_assoc, arith, length-append}
+use Rattle.std.proofs.Common.{◌≡◌, ℕ, ◌-◌, ◌<◌, ◌≤◌, List, [], ◌++◌, length, sym, ◌∙◌, ap, subst, inl, inr, append_assoc, arith, length-append}
 use Rattle.std.proofs.lemmas.List.{length-replicate}
-use Rattle.std.specs.Prelude.{Option, replicate, Result, Ok, Err}
+use Rattle.std.specs.Prelude.{Option, replicate, Err}
 use Rattle.pl_world.specs.declared.trouble.Trouble.{Trouble}
 use Rattle.pl_world.specs.declared.trouble.Trouble.TheVariants as trouble
 use Rattle.pl_world.specs.declared.frames.FrameIn.{FrameIn}
 use Rattle.pl_world.specs.declared.frames.FrameIn.TheVariants.{Fault, End, CutShort, TooLong, Empty, OutOfMemory}
 use Rattle.pl_world.specs.Told.{Took, TookMore}
-use Rattle.pl_world.specs.Frames.{IsBody, length_bytes, frame_of, IsPartOfFrame, IsCutFrame}
+use Rattle.pl_world.specs.Frames.{length_bytes, frame_of, IsPartOfFrame}
 use Rattle.pl_world.proofs.Telling.{Took-append}
 use Rattle.pl_world.specs.FrameIn.{frame_trouble, IsCutAt, TakesFor}
 

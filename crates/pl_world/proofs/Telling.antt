@@ -1,13 +1,13 @@
-use Rattle.std.proofs.Common.{◌≡◌, ℕ, ◌+◌, ◌-◌, ◌≤◌, List, [], ◌∷◌, ◌++◌, length, take, drop, refl, sym, ◌∙◌, ap, subst, append_assoc, arith, length-append, length-drop}
+use Rattle.std.proofs.Common.{◌≡◌, ℕ, ◌+◌, ◌-◌, ◌<◌, ◌≤◌, get_or, List, [], ◌∷◌, ◌++◌, length, take, drop, refl, sym, ◌∙◌, ap, subst, append_assoc, arith, length-append, length-drop}
 use Rattle.std.proofs.lemmas.List.{append-nil, length-take-le}
 use Rattle.std.proofs.lemmas.List.Elements.{All-append, All-nil, All-cons}
-use Rattle.std.proofs.Math.Seq.{take-append-add, take-length, take-add}
-use Rattle.std.proofs.lemmas.List.{take-append-le, take-append-drop}
-use Rattle.std.specs.Prelude.{Option, Some, None, option_map, All, Result, Ok, Err, OnErr}
+use Rattle.std.proofs.Math.Seq.{take-append-add, take-append_seam, take-length, take-add}
+use Rattle.std.proofs.lemmas.List.{take-append-le, take-append-drop, drop-drop, take_more}
+use Rattle.std.specs.Prelude.{Option, Some, None, option_map, Result, Ok, Err, OnErr}
 use Rattle.pl_world.specs.declared.trouble.Trouble.{Trouble}
 use Rattle.pl_world.specs.declared.trouble.Trouble.TheVariants.{Failed, OutOfMemory}
 use Rattle.pl_world.specs.Causes.{OnFailed, OnNoMemory}
-use Rattle.pl_world.specs.Told.{Grew, Shrank, Piece, bytes_of, Bears, Gave, GavePart, Took, TookMore}
+use Rattle.pl_world.specs.Told.{Grew, Shrank, Piece, bytes_of, Gave, GavePart, Took, TookMore}
 
 -- what stays as it is grew by nothing
 pub Grew-nothing : {A : Type 0} (before now : Option (List A)) → now ≡ before → Grew before now []
@@ -134,3 +134,33 @@ rest_from start xs = subst (λ (n : ℕ). take n (drop start xs) ≡ drop start 
 pub OnErr-always : {T E P : Type 0} (result : Result T E) → P → OnErr result P
 OnErr-always (Ok _) fact = tt
 OnErr-always (Err _) fact = fact
+
+-- the bytes that were moved to the front of a buffer are the next ones
+pub front_of_buffer : (count : ℕ) (moved rest : List ℕ) → length moved ≡ count → take count (moved ++ rest) ≡ moved
+front_of_buffer count moved rest size = subst (λ (n : ℕ). take n (moved ++ rest) ≡ moved) size (take-append_seam moved rest)
+
+-- what was taken grows by the next bytes of the input
+pub take-next : (start count : ℕ) (input moved rest : List ℕ) → start + count ≤ length input → moved ≡ take (start + count - start) (drop start input) → take (start + count) input ≡ take start input ++ take count (moved ++ rest)
+take-next start count input moved rest within moves =
+    let next : moved ≡ take count (drop start input) = moves ∙ ap (λ n. take n (drop start input)) (omega arith) in
+    let size : length moved ≡ count =
+    ap length next ∙ length-take-le count (drop start input) (omega (arith, length-drop start input))
+    in
+    take-add start count input ∙ ap (λ more. take start input ++ more) (sym (front_of_buffer count moved rest size ∙ next))
+
+-- what is left loses the next bytes of the input
+pub drop-next : (start count : ℕ) (input moved rest : List ℕ) → start + count ≤ length input → moved ≡ take (start + count - start) (drop start input) → drop start input ≡ take count (moved ++ rest) ++ drop (start + count) input
+drop-next start count input moved rest within moves =
+    let next : moved ≡ take count (drop start input) = moves ∙ ap (λ n. take n (drop start input)) (omega arith) in
+    let size : length moved ≡ count =
+    ap length next ∙ length-take-le count (drop start input) (omega (arith, length-drop start input))
+    in
+    let front : take count (moved ++ rest) ≡ take count (drop start input) = front_of_buffer count moved rest size ∙ next in
+    sym (ap (λ more. more ++ drop (start + count) input) front ∙ ap (λ more. take count (drop start input) ++ more) (sym (drop-drop count start input)) ∙ take-append-drop count (drop start input))
+
+-- the bytes of one more piece
+pub bytes_of-take_more : (pieces : List Piece) (i : ℕ) (piece : Piece) → i < length pieces → get_or pieces i piece ≡ piece → bytes_of (take (i + 1) pieces) ≡ bytes_of (take i pieces) ++ piece.0
+bytes_of-take_more pieces i piece within read =
+    ap bytes_of (take_more pieces i piece within)
+    ∙ bytes_of-append (take i pieces) (get_or pieces i piece ∷ [])
+    ∙ ap (λ more. bytes_of (take i pieces) ++ more) (append-nil (get_or pieces i piece).0 ∙ ap (λ (p : Piece). p.0) read)

@@ -5,6 +5,10 @@ use denote.Ref.{Bor}
 abbrev pub Grew : {A : Type 0} → Option (List A) → Option (List A) → List A → Type 0
 Grew before now more = now ≡ option_map (λ told. told ++ more) before
 
+-- the same of what may cease to be told: where it is told now, it grew by exactly this
+abbrev pub GrewIfTold : {A : Type 0} → Option (List A) → Option (List A) → List A → Type 0
+GrewIfTold before now more = IfSome now (λ _. Grew before now more)
+
 -- what is told lost exactly this at its front; what is not told stays untold
 abbrev pub Shrank : {A : Type 0} → Option (List A) → Option (List A) → List A → Type 0
 Shrank before now front = before ≡ option_map (λ told. front ++ told) now

@@ -11,3 +11,11 @@ pub trait Gate: Drop + Send + Sync {
     /// Returns, at the latest after some turns.
     fn at(&self, place: Place);
 }
+
+/// A gate that holds nobody.
+#[derive(Clone, Copy, Debug)]
+pub struct FreeGate;
+
+impl Gate for FreeGate {
+    fn at(&self, _place: Place) {}
+}

@@ -2,18 +2,30 @@
 //! what each may do and what of it is told.
 #![tactic(auto)]
 
+mod chunks;
+mod failing;
 mod frames;
 mod gate;
 mod ids;
+mod mem_pipe;
+mod mem_sink;
+mod mem_spawner;
+mod mem_store;
 mod pipe;
 mod sink;
 mod spawner;
 mod store;
+#[cfg(test)]
+mod tests;
 mod trouble;
 
 pub use frames::{FrameIn, MAX_BODY, read_frame, write_frame};
-pub use gate::{Gate, Place};
-pub use ids::Ids;
+pub use gate::{FreeGate, Gate, Place};
+pub use ids::{CountIds, Ids};
+pub use mem_pipe::{MemPipe, PipeScript};
+pub use mem_sink::MemSink;
+pub use mem_spawner::MemSpawner;
+pub use mem_store::{MemCover, MemStore};
 pub use pipe::Pipe;
 pub use sink::Sink;
 pub use spawner::Spawner;

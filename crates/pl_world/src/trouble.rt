@@ -1,5 +1,5 @@
 use pl_value::OutOfMemory;
-use std::alloc::AllocError;
+use std::alloc::{AllocError, AllocFailed};
 use thiserror::Error;
 
 /// The outside did not do what it was asked to.
@@ -48,5 +48,16 @@ impl From<Failed> for Trouble {
 
     fn from(_error: Failed) -> Trouble {
         Trouble::Failed
+    }
+}
+
+impl<T: Drop> From<AllocFailed<T>> for Trouble {
+    ghost use Rattle.std.specs.Prelude.{◌≡◌};
+    ghost use Rattle.pl_world.specs.declared.trouble.Trouble.{Trouble};
+
+    ghost from_gives = { λ _ trouble. trouble ≡ Trouble.OutOfMemory };
+
+    fn from(_error: AllocFailed<T>) -> Trouble {
+        Trouble::OutOfMemory
     }
 }

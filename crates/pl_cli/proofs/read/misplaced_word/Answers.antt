@@ -1,4 +1,4 @@
-use Rattle.std.proofs.Common.{rules, arith, ◌≡◌, ◌<◌, ◌≤◌, false, length, map, string_bytes}
+use Rattle.std.proofs.Common.{rules, ◌≡◌, ◌<◌, ◌≤◌, false, length, map, string_bytes}
 use Rattle.std.proofs.lemmas.List.{length-map}
 use Rattle.pl_cli.specs.Place.{may_stand}
 use Rattle.pl_cli.proofs.Places.{misplaced_word-None, misplaced_word-Some}

@@ -1,5 +1,4 @@
-use Rattle.std.proofs.Common.{rules, ◌≡◌, ℕ, ◌+◌, ◌-◌, List, ◌∷◌, arith}
-use Rattle.pl_world.specs.Told.{Gave, GavePart, cover_text}
+use Rattle.std.proofs.Common.{rules}
 use Rattle.pl_world.proofs.Telling.{GavePart-after_error, Gave-next, Gave-piece, rest_from, OnErr-always}
 use Rattle.pl_world.proofs.frames.give_all.Goals as goal
 

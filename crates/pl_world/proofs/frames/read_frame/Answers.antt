@@ -1,7 +1,5 @@
-use Rattle.std.proofs.Common.{◌≡◌, ℕ, ◌<◌, ◌≤◌, ◌++◌, ◌∙◌, ap, subst, sym, length, vec_len, List, arith}
+use Rattle.std.proofs.Common.{◌≡◌, ◌<◌, ◌++◌, ◌∙◌, ap, length, arith}
 use Rattle.std.proofs.lemmas.Result.{err_from_is_err_and}
-use Rattle.pl_world.specs.Frames.{IsPartOfFrame}
-use Rattle.pl_world.specs.FrameIn.{IsCutAt}
 use Rattle.pl_world.specs.Told.{Took}
 use Rattle.pl_world.proofs.Reading.{Took-header_and_body, IsPartOfFrame-short_body, TakesFor-trouble, TakesFor-cut}
 use Rattle.pl_world.proofs.frames.read_frame.Goals as goal
@@ -15,7 +13,7 @@ returns-in_err-fill-2-clause-taken g c =
     omega (arith, c.fill-2.new.kept.ok, c.in_err-fill-2.ensures.trouble_short)
     in
     let part = IsPartOfFrame-short_body c.length_of-length.result c.fill.new.kept.items c.fill-2.new.kept.items spelled (omega arith) (omega arith) short in
-    rw (p.1, p.2) (TakesFor-trouble c.in_err-fill-2.field-0.0 _ _ part took)
+    rw (p.1, p.2) (TakesFor-trouble c.in_err-fill-2.field-0.0 (Took (g.Q.Pipe.taken c.args.pipe.now) (g.Q.Pipe.taken c.fill-2.new.pipe) (g.Q.Pipe.left c.args.pipe.now) (g.Q.Pipe.left c.fill-2.new.pipe)) (c.fill.new.kept.items ++ c.fill-2.new.kept.items) part took)
 
 pub returns-in_err-extend_from_slice-clause-taken : goal.returns-in_err-extend_from_slice-clause-taken
 returns-in_err-extend_from_slice-clause-taken g c =
@@ -26,7 +24,7 @@ returns-in_err-extend_from_slice-clause-taken g c =
     omega (arith, c.fill-2.new.kept.ok, c.in_ok-fill-2.ensures.short c.if-not-branch-2.true)
     in
     let part = IsPartOfFrame-short_body c.length_of-length.result c.fill.new.kept.items c.fill-2.new.kept.items spelled (omega arith) (omega arith) short in
-    rw (p.1, p.2) (_, part, took)
+    rw (p.1, p.2) (c.fill.new.kept.items ++ c.fill-2.new.kept.items, part, took)
 
 pub returns-then-not-branch-2-clause-taken : goal.returns-then-not-branch-2-clause-taken
 returns-then-not-branch-2-clause-taken g c =
@@ -40,4 +38,4 @@ returns-then-not-branch-2-clause-taken g c =
     c.in_ok-extend_from_slice.ensures.items ∙ ap (λ body. c.fill.new.kept.items ++ body) c.deref-then-not-branch-2.ensures.value
     in
     let cut = rw kept at c.cut_short-then-not-branch-2.ensures in
-    TakesFor-cut _ _ _ cut part took
+    TakesFor-cut c.cut_short-then-not-branch-2.result (Took (g.Q.Pipe.taken c.args.pipe.now) (g.Q.Pipe.taken c.fill-2.new.pipe) (g.Q.Pipe.left c.args.pipe.now) (g.Q.Pipe.left c.fill-2.new.pipe)) (c.fill.new.kept.items ++ c.fill-2.new.kept.items) cut part took

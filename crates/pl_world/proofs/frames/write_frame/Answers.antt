@@ -1,4 +1,3 @@
-use Rattle.std.proofs.Common.{◌≡◌, ℕ, ◌++◌}
 use Rattle.std.proofs.lemmas.Result.{on_ok_weaker, on_err_weaker}
 use Rattle.pl_world.proofs.Telling.{GavePart-front, GavePart-append, Gave-append, OnErr-always}
 use Rattle.pl_world.proofs.frames.write_frame.Goals as goal

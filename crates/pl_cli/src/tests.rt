@@ -1,0 +1,146 @@
+use crate::{Command, WordFault, read_words};
+use pl_value::Words;
+use std::alloc::{AllocError, Global};
+use std::test::Fail;
+
+// A line's words stand between blanks, so that two blanks have an empty word between them; the empty line
+// has no word. Behind it stands what it is read as: the stack, the project and the host's words, or the
+// place at which it is refused.
+const LINES: [(&str, &str); 71] = [
+    ("", "bad 0"),
+    ("up --stack", "bad 1"),
+    ("up --stack dev -- h", "bad 3"),
+    // The command.
+    (" ", "bad 0"),
+    ("--", "bad 0"),
+    ("-- h", "bad 0"),
+    ("down", "bad 0"),
+    ("u --stack dev --project web -- h", "bad 0"),
+    ("upp --stack dev --project web -- h", "bad 0"),
+    ("UP --stack dev --project web -- h", "bad 0"),
+    ("preview --stack dev --project web -- h", "bad 0"),
+    ("--help", "bad 0"),
+    ("--stack dev up --project web -- h", "bad 0"),
+    // Both forms of an option, in any order.
+    ("up --stack dev --project web -- h", "dev web: h"),
+    ("up --project web --stack dev -- h", "dev web: h"),
+    ("up --stack=dev --project=web -- h", "dev web: h"),
+    ("up --stack=dev --project web -- h i j", "dev web: h i j"),
+    ("up --project=web --stack dev -- h", "dev web: h"),
+    ("up --stack up --project up -- up", "up up: up"),
+    ("up --stack ü --project 日 -- h", "ü 日: h"),
+    // What a value may hold.
+    ("up --stack=-x --project=--y -- h", "-x --y: h"),
+    ("up --stack=-- --project web -- h", "-- web: h"),
+    ("up --stack=a=b --project== -- h", "a=b =: h"),
+    ("up --stack a=b --project web -- h", "a=b web: h"),
+    ("up --stack= --project web -- h", "bad 1"),
+    ("up --stack  --project web -- h", "bad 2"),
+    ("up --stack a:b --project web -- h", "bad 2"),
+    ("up --stack=a:b --project web -- h", "bad 1"),
+    ("up --stack dev --project : -- h", "bad 4"),
+    ("up --stack dev --project=w: -- h", "bad 3"),
+    // An option without a value.
+    ("up --stack -- h", "bad 1"),
+    ("up --stack --project web -- h", "bad 1"),
+    ("up --stack -dev --project web -- h", "bad 1"),
+    ("up --stack --stack --project web -- h", "bad 1"),
+    ("up --project web --stack", "bad 3"),
+    ("up --project web --stack -- h", "bad 3"),
+    // An option that is given again.
+    ("up --stack dev --stack dev --project web -- h", "bad 3"),
+    ("up --stack dev --project web --project=web -- h", "bad 5"),
+    ("up --stack=dev --project=web --stack= -- h", "bad 3"),
+    ("up --stack dev --project web --stack", "bad 5"),
+    // Options that the command doesn't know.
+    ("up --file f --stack dev --project web -- h", "bad 1"),
+    ("up --stack dev --parallel=2 --project web -- h", "bad 3"),
+    ("up --stack dev --project web -x -- h", "bad 5"),
+    ("up --stack dev --project web - -- h", "bad 5"),
+    ("up --stac dev --project web -- h", "bad 1"),
+    ("up --stacks dev --project web -- h", "bad 1"),
+    ("up --Stack dev --project web -- h", "bad 1"),
+    ("up -stack dev --project web -- h", "bad 1"),
+    ("up --stack: dev --project web -- h", "bad 1"),
+    ("up --=dev --stack dev --project web -- h", "bad 1"),
+    // Positional words.
+    ("up dev --stack dev --project web -- h", "bad 1"),
+    ("up --stack dev web --project web -- h", "bad 3"),
+    ("up --stack=dev web --project web -- h", "bad 2"),
+    ("up --stack dev --project web h", "bad 5"),
+    ("up --stack dev  --project web -- h", "bad 3"),
+    ("up =dev --stack dev --project web -- h", "bad 1"),
+    // The least place counts.
+    ("up --stack a:b --stack c", "bad 2"),
+    ("up --stack dev --bad --stack", "bad 3"),
+    // What is missing.
+    ("up", "bad 1"),
+    ("up --", "bad 1"),
+    ("up -- h", "bad 1"),
+    ("up -- --stack dev --project web", "bad 1"),
+    ("up --stack dev", "bad 3"),
+    ("up --project=web -- h", "bad 2"),
+    ("up --stack dev --project web", "bad 5"),
+    ("up --stack dev --project web --", "bad 5"),
+    ("up --stack=dev --project=web --", "bad 3"),
+    // The host's words.
+    ("up --stack dev --project web -- -- h", "dev web: -- h"),
+    (
+        "up --stack dev --project web -- --stack a:b",
+        "dev web: --stack a:b",
+    ),
+    ("up --stack dev --project web -- h ", "dev web: h "),
+    ("up --stack dev --project web -- ", "dev web: "),
+];
+
+fn words_of(alloc: Global, line: &str) -> Result<Vec<String>, AllocError> {
+    let mut words = Vec::new(alloc);
+    if !line.is_empty() {
+        for word in line.split(' ') {
+            words.push(String::from_str(alloc, word)?)?;
+        }
+    }
+    Ok(words)
+}
+
+fn joined(alloc: Global, words: &Words) -> Result<String, AllocError> {
+    let mut line = String::new(alloc);
+    for place in 0..words.len() {
+        if let Some(word) = words.get(place) {
+            line.push(' ')?;
+            line.push_str(word.as_str())?;
+        }
+    }
+    Ok(line)
+}
+
+fn shown_command(alloc: Global, command: &Command) -> Result<String, AllocError> {
+    let Command::Up(run) = command;
+    let host = joined(alloc, &run.host)?;
+    let stack = run.stack.as_str();
+    let project = run.project.as_str();
+    format!(in alloc; "{stack} {project}:{host}")
+}
+
+// A command is shown by its copy.
+fn shown(alloc: Global, answer: &Result<Command, WordFault>) -> Result<String, AllocError> {
+    match answer {
+        Ok(command) => match command.copy() {
+            Ok(copy) => shown_command(alloc, &copy),
+            Err(_) => String::from_str(alloc, "no copy"),
+        },
+        Err(WordFault::BadWords(place)) => format!(in alloc; "bad {place}"),
+        Err(WordFault::OutOfMemory) => String::from_str(alloc, "out of memory"),
+    }
+}
+
+#[test]
+fn bad_words_places(rt: HostRuntime) -> Result<(), Fail> {
+    for (line, want) in LINES {
+        let words = words_of(rt.alloc(), line)?;
+        let answer = read_words(rt.alloc(), words.as_slice());
+        let shown = shown(rt.alloc(), &answer)?;
+        assert_eq!(rt; shown.as_str(), want, "at {line:?}");
+    }
+    Ok(())
+}
