@@ -1,9 +1,9 @@
 -- What is due when a request was told, and how a run stands when it was worked on.
-use Rattle.std.proofs.Common.{◌≡◌, ◌⊎◌, ℕ, ◌+◌, ◌<◌, ◌≤◌, Bool, true, false, ◌||◌, ◌&&◌, not, is_none, is_some, List, [], ◌∷◌, ◌++◌, length, map, reverse, filter, Option, Some, None, option_map, refl, sym, ◌∙◌, ap, subst, inl, inr, arith, nat_lt, ◌==◌}
+use Rattle.std.proofs.Common.{◌≡◌, ◌⊎◌, ℕ, ◌+◌, ◌<◌, ◌≤◌, Bool, true, false, ◌||◌, ◌&&◌, not, is_none, is_some, List, [], ◌∷◌, ◌++◌, length, map, reverse, filter, Option, Some, None, option_map, refl, sym, ◌∙◌, ap, subst, inl, inr, arith, nat_lt, ◌==◌, append_assoc}
 use Rattle.std.proofs.lemmas.Grind.{common_steps}
 use Rattle.std.proofs.lemmas.Bool.Decides.{nat_tests}
 use Rattle.std.proofs.lemmas.List.{append-nil, length-map, length-reverse, map-append, reverse-append}
-use Rattle.std.proofs.lemmas.List.Folds.{list_any-append}
+use Rattle.std.proofs.lemmas.List.Folds.{list_all-append, list_any-append}
 use Rattle.std.specs.List.{list_all, list_any}
 use Rattle.std.specs.Str.{bytes_eq}
 use Rattle.pl_state.specs.declared.goal.Goal.{Goal}
@@ -21,12 +21,18 @@ use Rattle.pl_model.specs.Saves.{must_save}
 use Rattle.pl_engine.proofs.Answering.{is_unposted}
 use Rattle.pl_model.specs.Entries.{entry_if, entry_of, has_entry, new_entries, unrecorded_of}
 use Rattle.pl_model.specs.Due.{NothingDue, is_post_due, is_ready, parent_stands, result_of}
-use Rattle.pl_engine.specs.Journal.{Consistent, kept_event, posted_event, run_of, stop_event, told_event}
+use Rattle.pl_engine.specs.Journal.{Consistent, end_event, kept_event, posted_event, run_of, stop_event, told_event}
+use Rattle.pl_events.specs.declared.event.Request.{Request}
+use Rattle.pl_events.specs.declared.event.What.{What}
+use Rattle.pl_events.specs.declared.event.What.TheVariants.{HostGone}
+use Rattle.pl_events.specs.declared.event.HostEnd.{HostEnd}
+use Rattle.pl_events.specs.declared.event.HostEnd.TheVariants.{BadFrame, NoMemory}
+use Rattle.pl_model.specs.Problems.{problem_of_end}
 use Rattle.pl_engine.specs.Judged.{is_placeable}
 use Rattle.pl_engine.specs.Kept.{KeptIn}
 use Rattle.pl_engine.specs.Stored.{Adds}
 use Rattle.pl_engine.specs.Answered.{Answers, Gives, Stops, urn_of}
-use Rattle.pl_engine.specs.Running.{AllRecorded, AtRest, RecordedAs, is_work}
+use Rattle.pl_engine.specs.Running.{AllRecorded, AtRest, EndedBy, Goes, Over, RecordedAs, Registered, is_work}
 use Rattle.pl_engine.specs.declared.journal.Journal.{Journal}
 use Rattle.pl_engine.proofs.Resting.{NothingDue-told, entry_if-told, goal_at-told, goals-told, is_post_due-problem, is_post_due-recorded, is_ready-told, result-halted, result-recorded, result-stopped, same_number, unrecorded-told, waiting-told}
 use Rattle.pl_engine.proofs.Storing.{run_same}
@@ -86,7 +92,8 @@ IsFree-rest run journal failed rest calm =
       none = rest.recorded.recorded free;
       idle = rest.answered (unfailed failed refl);
       order = rest.recorded.in_order free;
-      host = rest.host_open }
+      host = rest.host_open;
+    }
   where
     unfailed : (b : Bool) → failed ≡ b → failed ≡ false
     unfailed false is = is
@@ -98,11 +105,10 @@ pub moved : (P : Fixed → List Event → List Entry → Type 0) (run : Fixed) (
     → P (run_of journal) journal.history journal.state.entries
 moved P run journal history h is p =
     subst (λ (r : Fixed). P r journal.history journal.state.entries) (sym (run_same run journal h))
-      (subst (λ (es : List Entry). P run journal.history es) (sym h.entries)
-        (subst (λ (past : List Event). P run past (new_entries run past)) (sym is) p))
+    (subst (λ (es : List Entry). P run journal.history es) (sym h.entries)
+    (subst (λ (past : List Event). P run past (new_entries run past)) (sym is) p))
 
 module _ (run : Fixed) (n : ℕ) (told : Registration) (past : List Event) where
-
   abbrev made : Goal
   made = goal_for run told
 
@@ -145,16 +151,17 @@ module _ (run : Fixed) (n : ℕ) (told : Registration) (past : List Event) where
 
   order-kept : IsFree run past → new_entries run (kept_event number ∷ after) ≡ map entry_of (reverse (goals_of run (kept_event number ∷ after)))
   order-kept f =
-    ap (λ (es : List Entry). new_entries run past ++ es) (entry_if-told run n told past f.free)
-    ∙ ap (λ (es : List Entry). es ++ entry_of made ∷ []) f.order
-    ∙ sym (map-append entry_of (reverse (goals_of run past)) (made ∷ []))
-    ∙ ap (λ (gs : List Goal). map entry_of gs) (sym (reverse-append (made ∷ []) (goals_of run past)))
-    ∙ ap (λ (gs : List Goal). map entry_of (reverse gs)) (sym (goals-told run n told past f.free))
+      ap (λ (es : List Entry). new_entries run past ++ es) (entry_if-told run n told past f.free)
+      ∙ ap (λ (es : List Entry). es ++ entry_of made ∷ []) f.order
+      ∙ sym (map-append entry_of (reverse (goals_of run past)) (made ∷ []))
+      ∙ ap (λ (gs : List Goal). map entry_of gs) (sym (reverse-append (made ∷ []) (goals_of run past)))
+      ∙ ap (λ (gs : List Goal). map entry_of (reverse gs)) (sym (goals-told run n told past f.free))
 
   vacuous : (history : List Event) → has_problem history ≡ true → AllRecorded run history
   vacuous history problem = record {
     recorded = λ free. absurd (let e : true ≡ false = sym problem ∙ free in cc);
-    in_order = λ free. absurd (let e : true ≡ false = sym problem ∙ free in cc) }
+    in_order = λ free. absurd (let e : true ≡ false = sym problem ∙ free in cc);
+  }
 
   -- the goal was recorded and saved
   pub IsAwaited-kept : IsFree run past → IsAwaited (kept_event number ∷ after) (Some made.urn)
@@ -164,7 +171,8 @@ module _ (run : Fixed) (n : ℕ) (told : Registration) (past : List Event) where
     due = is_post_due-recorded run n number made (kept_event number ∷ after) (waits f) (left f) (there f);
     answer = ap (λ r. option_map urn_of r) (result-recorded run n number made (kept_event number ∷ after) (waits f) (left f) (there f));
     recorded = record { recorded = λ _. left f; in_order = λ _. order-kept f };
-    work = (kept_event number ∷ [], refl, refl) }
+    work = (kept_event number ∷ [], refl, refl);
+  }
 
   -- the goal was recorded and its save failed
   pub IsAwaited-unsaved : (stop : Stop) → IsFree run past → IsAwaited (stop_event stop ∷ kept_event number ∷ after) (Some made.urn)
@@ -174,7 +182,8 @@ module _ (run : Fixed) (n : ℕ) (told : Registration) (past : List Event) where
     due = is_post_due-problem run n (Some number) (stop_event stop ∷ kept_event number ∷ after) (waits f) refl;
     answer = ap (λ r. option_map urn_of r) (result-recorded run n number made (stop_event stop ∷ kept_event number ∷ after) (waits f) (left f) (there f));
     recorded = vacuous (stop_event stop ∷ kept_event number ∷ after) refl;
-    work = (stop_event stop ∷ kept_event number ∷ [], refl, refl) }
+    work = (stop_event stop ∷ kept_event number ∷ [], refl, refl);
+  }
 
   -- the goal was not recorded
   pub IsAwaited-stopped : (stop : Stop) → IsFree run past → IsAwaited (stop_event stop ∷ after) None
@@ -184,31 +193,33 @@ module _ (run : Fixed) (n : ℕ) (told : Registration) (past : List Event) where
     due = is_post_due-problem run n (Some number) (stop_event stop ∷ after) (waits f) refl;
     answer = ap (λ r. option_map urn_of r) (result-stopped run n number (stop_event stop ∷ after) (waits f) (unrecorded-told run n told past f.free f.none));
     recorded = vacuous (stop_event stop ∷ after) refl;
-    work = (stop_event stop ∷ [], refl, refl) }
+    work = (stop_event stop ∷ [], refl, refl);
+  }
 
   -- whatever became of the goal
   pub IsAwaited-recorded : (urn : List ℕ) (result : Option (List ℕ)) (history : List Event) → IsFree run past
       → urn ≡ made.urn → RecordedAs urn result (length (new_entries run after)) after history → IsAwaited history result
   IsAwaited-recorded urn (Some answer) history f same (is, inl kept) =
-    subst (λ (r : Option (List ℕ)). IsAwaited history r) (ap (λ (u : List ℕ). Some u) (sym (is ∙ same)))
+      subst (λ (r : Option (List ℕ)). IsAwaited history r) (ap (λ (u : List ℕ). Some u) (sym (is ∙ same)))
       (subst (λ (h : List Event). IsAwaited h (Some made.urn)) (sym (kept ∙ ap (λ (k : ℕ). kept_event k ∷ after) (count f))) (IsAwaited-kept f))
   IsAwaited-recorded urn (Some answer) history f same (is, inr (stop, kept)) =
-    subst (λ (r : Option (List ℕ)). IsAwaited history r) (ap (λ (u : List ℕ). Some u) (sym (is ∙ same)))
+      subst (λ (r : Option (List ℕ)). IsAwaited history r) (ap (λ (u : List ℕ). Some u) (sym (is ∙ same)))
       (subst (λ (h : List Event). IsAwaited h (Some made.urn)) (sym (kept ∙ ap (λ (k : ℕ). stop_event stop ∷ kept_event k ∷ after) (count f))) (IsAwaited-unsaved stop f))
   IsAwaited-recorded urn None history f same (stop, is) =
-    subst (λ (h : List Event). IsAwaited h None) (sym is) (IsAwaited-stopped stop f)
+      subst (λ (h : List Event). IsAwaited h None) (sym is) (IsAwaited-stopped stop f)
 
   -- a request that a problem halts
   pub IsAwaited-halted : has_problem past ≡ true → waiting_of run past ≡ [] → has_host_end past ≡ false → IsAwaited after None
   IsAwaited-halted problem idle host =
-    let waiting : waiting_of run after ≡ record { number = n; made = None } ∷ [] = rw (problem, idle) refl in
-    record {
-      host = host;
-      waiting = (None, waiting);
-      due = is_post_due-problem run n None after waiting problem;
-      answer = ap (λ r. option_map urn_of r) (result-halted run n after waiting);
-      recorded = vacuous after problem;
-      work = ([], refl, refl) }
+      let waiting : waiting_of run after ≡ record { number = n; made = None } ∷ [] = rw (problem, idle) refl in
+      record {
+        host = host;
+        waiting = (None, waiting);
+        due = is_post_due-problem run n None after waiting problem;
+        answer = ap (λ r. option_map urn_of r) (result-halted run n after waiting);
+        recorded = vacuous after problem;
+        work = ([], refl, refl);
+      }
 
 -- ---- after the post
 
@@ -243,24 +254,28 @@ AtRest-answered run n told past history result journal false awaited (middle, st
     let host = Stops-host history middle stops awaited.host in
     let waiting : waiting_of run middle ≡ record { number = n; made = awaited.waiting.0 } ∷ [] = Stops-waiting run history middle stops ∙ awaited.waiting.1 in
     let recorded = Stops-recorded run history middle stops awaited.recorded in
-    let work = Adds-more (told_event n told ∷ past) history middle awaited.work stops in
-    (record {
-      consistent = consistent;
-      host_open = ap (λ (h : List Event). has_host_end h) gave ∙ host;
-      answered = λ _. ap (λ (h : List Event). waiting_of run h) gave ∙ answered-posted run n awaited.waiting.0 middle waiting;
-      recorded = subst (λ (h : List Event). AllRecorded run h) (sym gave) (record { recorded = recorded.recorded; in_order = recorded.in_order });
-      failing = failing },
-     (posted_event n ∷ work.0, gave ∙ ap (λ (h : List Event). posted_event n ∷ h) work.1, work.2))
+    let work = Adds-more (told_event n told ∷ past) history middle awaited.work stops in (
+      record {
+        consistent = consistent;
+        host_open = ap (λ (h : List Event). has_host_end h) gave ∙ host;
+        answered = λ _. ap (λ (h : List Event). waiting_of run h) gave ∙ answered-posted run n awaited.waiting.0 middle waiting;
+        recorded = subst (λ (h : List Event). AllRecorded run h) (sym gave) (record { recorded = recorded.recorded; in_order = recorded.in_order });
+        failing = failing;
+      },
+      (posted_event n ∷ work.0, gave ∙ ap (λ (h : List Event). posted_event n ∷ h) work.1, work.2),
+    )
 AtRest-answered run n told past history result journal true awaited (middle, stops, gave) consistent failing =
     let host = Stops-host middle journal.history gave (Stops-host history middle stops awaited.host) in
-    let recorded = Stops-recorded run middle journal.history gave (Stops-recorded run history middle stops awaited.recorded) in
-    (record {
-      consistent = consistent;
-      host_open = host;
-      answered = λ e. absurd (cc);
-      recorded = recorded;
-      failing = failing },
-     Adds-more (told_event n told ∷ past) middle journal.history (Adds-more (told_event n told ∷ past) history middle awaited.work stops) gave)
+    let recorded = Stops-recorded run middle journal.history gave (Stops-recorded run history middle stops awaited.recorded) in (
+      record {
+        consistent = consistent;
+        host_open = host;
+        answered = λ e. absurd (cc);
+        recorded = recorded;
+        failing = failing;
+      },
+      Adds-more (told_event n told ∷ past) middle journal.history (Adds-more (told_event n told ∷ past) history middle awaited.work stops) gave,
+    )
 
 -- a registration that the entries let stand is one that may come next
 pub next-placeable : (run : Fixed) (n : ℕ) (told : Registration) (journal : Journal) (failed : Bool)
@@ -269,8 +284,8 @@ pub next-placeable : (run : Fixed) (n : ℕ) (told : Registration) (journal : Jo
 next-placeable run n told journal failed rest calm above placeable =
     let f = IsFree-rest run journal failed rest calm in
     let acceptable : is_acceptable run (goals_of run journal.history) told ≡ true =
-      sym (is_placeable-goals run (goals_of run journal.history) told)
-      ∙ ap (λ (es : List Entry). is_placeable run es told) (sym (rest.consistent.entries ∙ f.order)) ∙ placeable in
+    sym (is_placeable-goals run (goals_of run journal.history) told)
+    ∙ ap (λ (es : List Entry). is_placeable run es told) (sym (rest.consistent.entries ∙ f.order)) ∙ placeable in
     let higher : nat_lt (last_number journal.history) n ≡ true = rw (sym rest.consistent.last) (grind (arith, nat_tests)) in
     rw (higher, acceptable) (or_true (has_problem journal.history))
 
@@ -281,8 +296,8 @@ pub not_next-placeable : (run : Fixed) (n : ℕ) (told : Registration) (journal 
 not_next-placeable run n told journal failed rest calm refused =
     let f = IsFree-rest run journal failed rest calm in
     let refused' : is_acceptable run (goals_of run journal.history) told ≡ false =
-      sym (is_placeable-goals run (goals_of run journal.history) told)
-      ∙ ap (λ (es : List Entry). is_placeable run es told) (sym (rest.consistent.entries ∙ f.order)) ∙ refused in
+    sym (is_placeable-goals run (goals_of run journal.history) told)
+    ∙ ap (λ (es : List Entry). is_placeable run es told) (sym (rest.consistent.entries ∙ f.order)) ∙ refused in
     rw (refused', f.free) (and_false (nat_lt (last_number journal.history) n))
 
 pub not_next-low : (run : Fixed) (n : ℕ) (told : Registration) (journal : Journal)
@@ -307,8 +322,8 @@ pub parent_stands-placeable : (run : Fixed) (told : Registration) (journal : Jou
     → is_placeable run journal.state.entries told ≡ true → parent_stands (new_entries run journal.history) told.parent ≡ true
 parent_stands-placeable run told journal consistent placeable =
     subst (λ (es : List Entry). parent_stands es told.parent ≡ true) consistent.entries
-      (parent_of_and (is_none (child_fault told.kind told.name)) (parent_stands journal.state.entries told.parent)
-        (not (has_entry journal.state.entries (goal_for run told).urn)) placeable)
+    (parent_of_and (is_none (child_fault told.kind told.name)) (parent_stands journal.state.entries told.parent)
+    (not (has_entry journal.state.entries (goal_for run told).urn)) placeable)
 
 -- what work adds needs no save but for its keeps, and posts no answer but by its posts
 pub Adds-answers : (n : ℕ) (failed : Bool) (old new : List Event) → Answers n failed old new → Adds (λ what. not (must_save what)) old new
@@ -317,6 +332,7 @@ Adds-answers n false old new (middle, stops, gave) = posted (Adds-stops' old mid
     Adds-stops' : (old new : List Event) → Stops old new → Adds (λ what. not (must_save what)) old new
     Adds-stops' old new (inl is) = ([], is, refl)
     Adds-stops' old new (inr (stop, is)) = (stop_event stop ∷ [], is, refl)
+
     posted : Adds (λ what. not (must_save what)) old middle → Adds (λ what. not (must_save what)) old new
     posted adds = (posted_event n ∷ adds.0, gave ∙ ap (λ (h : List Event). posted_event n ∷ h) adds.1, adds.2)
 Adds-answers n true old new (middle, stops, gave) = more middle new (first old middle stops) gave
@@ -324,6 +340,7 @@ Adds-answers n true old new (middle, stops, gave) = more middle new (first old m
     first : (old new : List Event) → Stops old new → Adds (λ what. not (must_save what)) old new
     first old new (inl is) = ([], is, refl)
     first old new (inr (stop, is)) = (stop_event stop ∷ [], is, refl)
+
     more : (middle new : List Event) → Adds (λ what. not (must_save what)) old middle → Stops middle new → Adds (λ what. not (must_save what)) old new
     more middle new adds (inl is) = (adds.0, is ∙ adds.1, adds.2)
     more middle new adds (inr (stop, is)) = (stop_event stop ∷ adds.0, is ∙ ap (λ (h : List Event). stop_event stop ∷ h) adds.1, adds.2)
@@ -332,3 +349,56 @@ pub Adds-recorded : (urn : List ℕ) (result : Option (List ℕ)) (goal : ℕ) (
 Adds-recorded urn (Some answer) goal old new (is, inl kept) = (kept_event goal ∷ [], kept, refl)
 Adds-recorded urn (Some answer) goal old new (is, inr (stop, kept)) = (stop_event stop ∷ kept_event goal ∷ [], kept, refl)
 Adds-recorded urn None goal old new (stop, is) = (stop_event stop ∷ [], is, refl)
+
+-- a request that was told and worked on was taken up
+pub Registered-goes : (result : Bool) (n : ℕ) (told : Registration) (body : List ℕ) (run : Fixed) (old new : Journal) (failed : Bool)
+    → Goes result n told run old new failed → Registered result (Register n told) body run old new failed
+Registered-goes true n told body run old new failed h = h
+Registered-goes false n told body run old new failed h = (h.0, inr (h.1, h.2))
+
+-- the host's end adds one event
+pub Adds-ended : (p : What → Bool) (end : HostEnd) (old new : List Event) (wanted : Bool) → ((e : HostEnd) → p (HostGone e) ≡ true)
+    → EndedBy end old new wanted → Adds p old new
+Adds-ended p end old new wanted all (inl (is, _)) = (end_event end ∷ [], is, ap (λ b. b && true) (all end))
+Adds-ended p end old new wanted all (inr (is, _)) = (end_event NoMemory ∷ [], is, ap (λ b. b && true) (all NoMemory))
+
+or_second : (a b : Bool) → (a || b) ≡ false → b ≡ false
+or_second true b h = absurd (cc)
+or_second false b h = h
+
+-- once the host has ended every request is answered as before
+pub Over-ended : (run : Fixed) (old new : Journal) (failed : Bool) (end : HostEnd)
+    → AtRest run old failed → Consistent run new → new.history ≡ end_event end ∷ old.history → Over run new failed
+Over-ended run old new failed end rest consistent is = record {
+  consistent = consistent;
+  ended = ap (λ (h : List Event). has_host_end h) is;
+  answered = λ unfailed. ap (λ (h : List Event). waiting_of run h) is ∙ rest.answered unfailed;
+  recorded = subst (λ (h : List Event). AllRecorded run h) (sym is) (record {
+    recorded = λ free. rest.recorded.recorded (or_second (is_some (problem_of_end end)) (has_problem old.history) free);
+    in_order = λ free. rest.recorded.in_order (or_second (is_some (problem_of_end end)) (has_problem old.history) free);
+  });
+  failing = λ failing. consistent.stopped ∙ ap (λ (h : List Event). has_stop h) is ∙ sym rest.consistent.stopped ∙ rest.failing failing;
+}
+
+pub Over-ended_by : (run : Fixed) (old new : Journal) (failed : Bool) (end : HostEnd) (wanted : Bool)
+    → AtRest run old failed → Consistent run new → EndedBy end old.history new.history wanted → Over run new failed
+Over-ended_by run old new failed end wanted rest consistent (inl (is, _)) = Over-ended run old new failed end rest consistent is
+Over-ended_by run old new failed end wanted rest consistent (inr (is, _)) = Over-ended run old new failed NoMemory rest consistent is
+
+-- a request that may not come next is a bad frame
+pub Registered-refused : (request : Request) (body : List ℕ) (run : Fixed) (old new : Journal) (failed : Bool)
+    → AtRest run old failed → Consistent run new → EndedBy (BadFrame body) old.history new.history new.wanted
+    → may_be_next run old.history request ≡ false → Registered false request body run old new failed
+Registered-refused request body run old new failed rest consistent (inl (is, _)) refused =
+    (Over-ended run old new failed (BadFrame body) rest consistent is, inl (is, refused))
+Registered-refused request body run old new failed rest consistent (inr (is, want)) refused =
+    (Over-ended run old new failed NoMemory rest consistent is, inr (is, want))
+
+-- events after one that need not be saved need not be saved
+pub Adds-after : (event : Event) (old middle new : List Event) → must_save event.what ≡ false → middle ≡ event ∷ old
+    → Adds (λ what. not (must_save what)) middle new → Adds (λ what. not (must_save what)) old new
+Adds-after event old middle new need is adds = (
+  adds.0 ++ event ∷ [],
+  adds.1 ∙ ap (λ (h : List Event). adds.0 ++ h) is ∙ sym (append_assoc adds.0 (event ∷ []) old),
+  list_all-append (λ (e : Event). not (must_save e.what)) adds.0 (event ∷ []) ∙ rw (adds.2, need) refl,
+)

@@ -71,7 +71,7 @@ pub answer_of-fits : (run : Fixed) (history : List Event) (n : ℕ) (urn : List 
 answer_of-fits run history n urn result fits =
     let is = answer_for-urn (result_of run history n) urn result in
     chosen (has_problem history) (is_too_long host_spelling n (answer_for (result_of run history n))) (answer_for (result_of run history n))
-      (ap (λ (a : Answer). is_too_long host_spelling n a) is ∙ short n (Registered urn) fits)
+    (ap (λ (a : Answer). is_too_long host_spelling n a) is ∙ short n (Registered urn) fits)
     ∙ is
 
 pub too_long-result : (run : Fixed) (history : List Event) (n : ℕ) (urn : List ℕ)
@@ -147,13 +147,25 @@ HostGave-adds run faults faults' wanted wanted' old new pieces le want adds h =
     let same = answers_of-adds run old new adds in
     record {
       uncovered = h.uncovered;
-      answered = elim h.answered
-        [ inl exact ↦ inl (exact ∙ sym same)
-        | inr more ↦ inr (more.0, more.1 ∙ ap (λ (bytes : List ℕ). bytes ++ more.0) (sym same), record {
+      answered = elim h.answered [
+        | inl exact ↦ inl (exact ∙ sym same)
+        | inr more ↦ inr (
+          more.0,
+          more.1 ∙ ap (λ (bytes : List ℕ). bytes ++ more.0) (sym same),
+          record {
             cause = elim more.2.cause [ inl rose ↦ inl (omega arith) | inr w ↦ inr (want w) ];
-            of_due = (adds.0 ++ more.2.of_due.0, more.2.of_due.1, more.2.of_due.2,
+            of_due = (
+              adds.0 ++ more.2.of_due.0,
+              more.2.of_due.1,
+              more.2.of_due.2,
               adds.1 ∙ ap (λ (past : List Event). adds.0 ++ past) more.2.of_due.3 ∙ sym (append_assoc adds.0 more.2.of_due.0 more.2.of_due.1),
-              more.2.of_due.4, more.2.of_due.5) }) ] }
+              more.2.of_due.4,
+              more.2.of_due.5,
+            );
+          },
+        )
+      ];
+    }
 
 if_map : (P Q : List Piece → Type 0) (given : Option (List Piece)) → ((pieces : List Piece) → P pieces → Q pieces) → IfSome given P → IfSome given Q
 if_map P Q None f h = tt
@@ -167,9 +179,10 @@ Written-step run faults faults' wanted wanted' failed old new given le want adds
     let same = answers_of-adds run old new adds in
     record {
       exact = λ unfailed. if_map _ _ given
-        (λ pieces is. record { uncovered = is.uncovered; exact = is.exact ∙ sym same }) (h.exact unfailed);
+          (λ pieces is. record { uncovered = is.uncovered; exact = is.exact ∙ sym same }) (h.exact unfailed);
       loose = λ shut. if_map _ _ given (λ pieces is. HostGave-adds run faults faults' wanted wanted' old new pieces le want adds is) (h.loose shut);
-      cause = λ shut. elim (h.cause shut) [ inl rose ↦ inl (omega arith) | inr w ↦ inr (want w) ] }
+      cause = λ shut. elim (h.cause shut) [ inl rose ↦ inl (omega arith) | inr w ↦ inr (want w) ];
+    }
 
 given_more : (run : Fixed) (history new : List Event) (given given' : Option (List Piece)) (bytes : List ℕ)
     (Q : List Piece → Type 0)
@@ -190,14 +203,16 @@ pub Written-posted : (run : Fixed) (faults faults' : ℕ) (wanted wanted' failed
 Written-posted run faults faults' wanted wanted' failed n body history new given given' unfailed is answer gave h =
     subst (λ (past : List Event). Written run faults' wanted' failed past given') (sym is) (record {
       exact = λ _. given_more run history (posted_event n ∷ history) given given' (frame_of body) (IsAnswered run (posted_event n ∷ history)) gave (h.exact unfailed)
-        (λ before pieces was bears. record {
-          uncovered = All-append (λ (piece : Piece). ◌≡◌ {A = Option (List ℕ)} piece.1 None) before pieces was.uncovered bears.covered;
-          exact = bytes_of-append before pieces
-            ∙ ap (λ (bytes : List ℕ). bytes ++ bytes_of pieces) was.exact
-            ∙ ap (λ (bytes : List ℕ). answers_of run host_spelling history ++ bytes)
-                (bears.in_order ∙ ap (λ (b : List ℕ). frame_of b) (answer ∙ sym (answer_text-host n (answer_of run host_spelling history n)))) });
+          (λ before pieces was bears. record {
+            uncovered = All-append (λ (piece : Piece). ◌≡◌ {A = Option (List ℕ)} piece.1 None) before pieces was.uncovered bears.covered;
+            exact = bytes_of-append before pieces
+                ∙ ap (λ (bytes : List ℕ). bytes ++ bytes_of pieces) was.exact
+                ∙ ap (λ (bytes : List ℕ). answers_of run host_spelling history ++ bytes)
+                (bears.in_order ∙ ap (λ (b : List ℕ). frame_of b) (answer ∙ sym (answer_text-host n (answer_of run host_spelling history n))));
+          });
       loose = λ shut. absurd (let e : true ≡ false = sym shut ∙ unfailed in cc);
-      cause = λ shut. absurd (let e : true ≡ false = sym shut ∙ unfailed in cc) })
+      cause = λ shut. absurd (let e : true ≡ false = sym shut ∙ unfailed in cc);
+    })
 
 -- an answer that was given in part, or not written down
 pub Written-failed : (run : Fixed) (faults faults' : ℕ) (wanted wanted' failed : Bool) (n : ℕ) (body more rest : List ℕ) (history new : List Event) (given given' : Option (List Piece))
@@ -208,39 +223,52 @@ pub Written-failed : (run : Fixed) (faults faults' : ℕ) (wanted wanted' failed
     → Gave given given' more None
     → Written run faults wanted failed history given → Written run faults' wanted' true new given'
 Written-failed run faults faults' wanted wanted' failed n body more rest history new given given' unfailed stops answer due parts cause gave h = record {
-    exact = λ e. absurd (cc);
-    loose = λ _. given_more run history new given given' more _ gave (h.exact unfailed)
+  exact = λ e. absurd (cc);
+  loose = λ _. given_more run history new given given' more _ gave (h.exact unfailed)
       (λ before pieces was bears. record {
         uncovered = All-append (λ (piece : Piece). ◌≡◌ {A = Option (List ℕ)} piece.1 None) before pieces was.uncovered bears.covered;
-        answered = inr (more,
+        answered = inr (
+          more,
           bytes_of-append before pieces
-            ∙ ap (λ (bytes : List ℕ). bytes ++ bytes_of pieces) (was.exact ∙ sym (same stops))
-            ∙ ap (λ (bytes : List ℕ). answers_of run host_spelling new ++ bytes) bears.in_order,
+              ∙ ap (λ (bytes : List ℕ). bytes ++ bytes_of pieces) (was.exact ∙ sym (same stops))
+              ∙ ap (λ (bytes : List ℕ). answers_of run host_spelling new ++ bytes) bears.in_order,
           record {
             cause = cause;
-            of_due = ((later stops).0, history, n, (later stops).1, due,
-              (rest, parts ∙ ap (λ (b : List ℕ). frame_of b) (answer ∙ sym (answer_text-host n (answer_of run host_spelling history n))))) }) });
-    cause = λ _. cause }
-    where
-      same : Stops history new → answers_of run host_spelling new ≡ answers_of run host_spelling history
-      same (inl is) = ap (λ (past : List Event). answers_of run host_spelling past) is
-      same (inr (stop, is)) = ap (λ (past : List Event). answers_of run host_spelling past) is
-      later : Stops history new → (events : List Event) × (new ≡ events ++ history)
-      later (inl is) = ([], is)
-      later (inr (stop, is)) = (stop_event stop ∷ [], is)
+            of_due = (
+              (later stops).0,
+              history,
+              n,
+              (later stops).1,
+              due,
+              (rest, parts ∙ ap (λ (b : List ℕ). frame_of b) (answer ∙ sym (answer_text-host n (answer_of run host_spelling history n)))),
+            );
+          },
+        );
+      });
+  cause = λ _. cause;
+}
+  where
+    same : Stops history new → answers_of run host_spelling new ≡ answers_of run host_spelling history
+    same (inl is) = ap (λ (past : List Event). answers_of run host_spelling past) is
+    same (inr (stop, is)) = ap (λ (past : List Event). answers_of run host_spelling past) is
+
+    later : Stops history new → (events : List Event) × (new ≡ events ++ history)
+    later (inl is) = ([], is)
+    later (inr (stop, is)) = (stop_event stop ∷ [], is)
 
 -- an answer for which no memory was found before anything was given
 pub Written-wanted : (run : Fixed) (faults : ℕ) (wanted wanted' failed : Bool) (history middle new : List Event) (given : Option (List Piece))
     → failed ≡ false → Stops history middle → Stops middle new → wanted' ≡ true
     → Written run faults wanted failed history given → Written run faults wanted' true new given
 Written-wanted run faults wanted wanted' failed history middle new given unfailed first second want h = record {
-    exact = λ e. absurd (cc);
-    loose = λ _. if_map _ _ given (λ pieces is. record { uncovered = is.uncovered; answered = inl (is.exact ∙ sym (same middle new second ∙ same history middle first)) }) (h.exact unfailed);
-    cause = λ _. inr want }
-    where
-      same : (old now : List Event) → Stops old now → answers_of run host_spelling now ≡ answers_of run host_spelling old
-      same old now (inl is) = ap (λ (past : List Event). answers_of run host_spelling past) is
-      same old now (inr (stop, is)) = ap (λ (past : List Event). answers_of run host_spelling past) is
+  exact = λ e. absurd (cc);
+  loose = λ _. if_map _ _ given (λ pieces is. record { uncovered = is.uncovered; answered = inl (is.exact ∙ sym (same middle new second ∙ same history middle first)) }) (h.exact unfailed);
+  cause = λ _. inr want;
+}
+  where
+    same : (old now : List Event) → Stops old now → answers_of run host_spelling now ≡ answers_of run host_spelling old
+    same old now (inl is) = ap (λ (past : List Event). answers_of run host_spelling past) is
+    same old now (inr (stop, is)) = ap (λ (past : List Event). answers_of run host_spelling past) is
 
 pub Adds-stops : (old new : List Event) → Stops old new → Adds is_unposted old new
 Adds-stops old new (inl is) = ([], is, refl)
@@ -258,4 +286,3 @@ over_limit error len n answer is told over =
 -- what is told where the pipe failed
 pub failed_of : (trouble : Trouble) (P : Type 0) → trouble ≡ Failed → OnFailed {T = Unit {0}} (Err trouble) P → P
 failed_of trouble P is h = subst (λ (t : Trouble). OnFailed {T = Unit {0}} (Err t) P) is h
-

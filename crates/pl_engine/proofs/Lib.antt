@@ -4,3 +4,4 @@ pub mod Resting
 pub mod Finding
 pub mod Answering
 pub mod Accepting
+pub mod Hearing

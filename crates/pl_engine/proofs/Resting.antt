@@ -30,7 +30,6 @@ or_true true = refl
 or_true false = refl
 
 module _ (run : Fixed) (n : ℕ) (told : Registration) (past : List Event) where
-
   -- the goal that the request makes, and its number
   abbrev made : Goal
   made = goal_for run told
@@ -57,7 +56,7 @@ module _ (run : Fixed) (n : ℕ) (told : Registration) (past : List Event) where
   pub is_ready-told : has_problem past ≡ false → unrecorded_of run past ≡ []
       → parent_stands (new_entries run past) told.parent ≡ true → is_ready run after number ≡ true
   is_ready-told free none parent =
-    rw (unrecorded-told free none, goal_at-told free, same_number number, parent, free)
+      rw (unrecorded-told free none, goal_at-told free, same_number number, parent, free)
 
   pub entry_if-told : has_problem past ≡ false → entry_if (goal_at (goals_of run after) number) ≡ entry_of made ∷ []
   entry_if-told free = rw (goal_at-told free)
@@ -76,10 +75,10 @@ module _ (run : Fixed) (n : ℕ) (told : Registration) (past : List Event) where
       → nat_lt (length (new_entries run past)) most_resources ≡ false → NothingDue run after
   NothingDue-told free none idle full = record {
     no_post = λ m. rw (result-unrecorded m free none idle, free, and_false);
-    no_keep = λ g. rw (full, and_false) }
+    no_keep = λ g. rw (full, and_false);
+  }
 
 module _ (run : Fixed) (n number : ℕ) (goal : Goal) (history : List Event) where
-
   abbrev awaiting : List Waiting
   awaiting = record { number = n; made = Some number } ∷ []
 

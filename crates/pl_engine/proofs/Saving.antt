@@ -51,8 +51,10 @@ saves_of-grown run s event past (mark ∷ marks) h =
 pub HasMark-strict : (next : Option What) (event : Event) (past : List Event) (marks : List ℕ)
     → HasMark ⊥ false next event past marks → must_save event.what ≡ true → Contains marks (length past + 1)
 HasMark-strict next event past marks h must =
-    elim (h must) [ inl found ↦ elim found [ inl here ↦ here | inr lacks ↦ absurd lacks.cause ]
-                  | inr lacks ↦ absurd (let e : false ≡ true = lacks.cause in cc) ]
+    elim (h must) [
+      | inl found ↦ elim found [ inl here ↦ here | inr lacks ↦ absurd lacks.cause ]
+      | inr lacks ↦ absurd (let e : false ≡ true = lacks.cause in cc)
+    ]
 
 -- then what follows does not matter
 pub AllMarked-strict : (next other : Option What) (history : List Event) (marks : List ℕ)
@@ -65,32 +67,38 @@ AllMarked-strict next other (event ∷ past) marks h =
 pub AllMarked-more : (next : Option What) (history : List Event) (marks : List ℕ) (mark : ℕ)
     → AllMarked ⊥ false next history marks → AllMarked ⊥ false next history (marks ++ mark ∷ [])
 AllMarked-more next [] marks mark h = tt
-AllMarked-more next (event ∷ past) marks mark h =
-    (λ must. inl (inl (Contains-append_left marks (mark ∷ []) _ (HasMark-strict next event past marks h.0 must))),
-     AllMarked-more (Some event.what) past marks mark h.1)
+AllMarked-more next (event ∷ past) marks mark h = (
+  λ must. inl (inl (Contains-append_left marks (mark ∷ []) _ (HasMark-strict next event past marks h.0 must))),
+  AllMarked-more (Some event.what) past marks mark h.1,
+)
 
 -- whatever the causes are
 pub AllMarked-loosened : (rose : Type 0) (wanted : Bool) (next : Option What) (history : List Event) (marks : List ℕ)
     → AllMarked ⊥ false next history marks → AllMarked rose wanted next history marks
 AllMarked-loosened rose wanted next [] marks h = tt
-AllMarked-loosened rose wanted next (event ∷ past) marks h =
-    (λ must. inl (inl (HasMark-strict next event past marks h.0 must)),
-     AllMarked-loosened rose wanted (Some event.what) past marks h.1)
+AllMarked-loosened rose wanted next (event ∷ past) marks h = (
+  λ must. inl (inl (HasMark-strict next event past marks h.0 must)),
+  AllMarked-loosened rose wanted (Some event.what) past marks h.1,
+)
 
 -- what lacks its mark for a stop before it goes on lacking it
 pub HasMark-followed : (rose : Type 0) (wanted : Bool) (next : What) (event : Event) (past : List Event) (marks : List ℕ)
     → HasMark rose wanted None event past marks → HasMark rose wanted (Some next) event past marks
 HasMark-followed rose wanted next event past marks h = λ must.
-    elim (h must)
-    [ inl found ↦ elim found
-        [ inl here ↦ inl (inl here)
+    elim (h must) [
+      | inl found ↦ elim found [
+        | inl here ↦ inl (inl here)
         | inr lacks ↦ inl (inr (record {
-            cause = lacks.cause;
-            none_later = lacks.none_later;
-            stopped = elim lacks.stopped [ inl next_is ↦ absurd (cc) | inr before ↦ inr before ] })) ]
-    | inr lacks ↦ inr (record {
+          cause = lacks.cause;
+          none_later = lacks.none_later;
+          stopped = elim lacks.stopped [ inl next_is ↦ absurd (cc) | inr before ↦ inr before ];
+        }))
+      ]
+      | inr lacks ↦ inr (record {
         cause = lacks.cause;
-        stopped = elim lacks.stopped [ inl next_is ↦ absurd (cc) | inr before ↦ inr before ] }) ]
+        stopped = elim lacks.stopped [ inl next_is ↦ absurd (cc) | inr before ↦ inr before ];
+      })
+    ]
 
 pub AllMarked-followed : (rose : Type 0) (wanted : Bool) (next : What) (history : List Event) (marks : List ℕ)
     → AllMarked rose wanted None history marks → AllMarked rose wanted (Some next) history marks
@@ -103,16 +111,19 @@ pub HasMark-caused : (rose rose' : Type 0) (wanted wanted' : Bool) (next : Optio
     → (rose → rose') → (wanted ≡ true → wanted' ≡ true)
     → HasMark rose wanted next event past marks → HasMark rose' wanted' next event past marks
 HasMark-caused rose rose' wanted wanted' next event past marks up want h = λ must.
-    elim (h must)
-    [ inl found ↦ elim found
-        [ inl here ↦ inl (inl here)
-        | inr lacks ↦ inl (inr (record { cause = up lacks.cause; none_later = lacks.none_later; stopped = lacks.stopped })) ]
-    | inr lacks ↦ inr (record { cause = want lacks.cause; stopped = lacks.stopped }) ]
+    elim (h must) [
+      | inl found ↦ elim found [
+        | inl here ↦ inl (inl here)
+        | inr lacks ↦ inl (inr (record { cause = up lacks.cause; none_later = lacks.none_later; stopped = lacks.stopped }))
+      ]
+      | inr lacks ↦ inr (record { cause = want lacks.cause; stopped = lacks.stopped })
+    ]
 
 pub AllMarked-caused : (rose rose' : Type 0) (wanted wanted' : Bool) (next : Option What) (history : List Event) (marks : List ℕ)
     → (rose → rose') → (wanted ≡ true → wanted' ≡ true)
     → AllMarked rose wanted next history marks → AllMarked rose' wanted' next history marks
 AllMarked-caused rose rose' wanted wanted' next [] marks up want h = tt
-AllMarked-caused rose rose' wanted wanted' next (event ∷ past) marks up want h =
-    (HasMark-caused rose rose' wanted wanted' next event past marks up want h.0,
-     AllMarked-caused rose rose' wanted wanted' (Some event.what) past marks up want h.1)
+AllMarked-caused rose rose' wanted wanted' next (event ∷ past) marks up want h = (
+  HasMark-caused rose rose' wanted wanted' next event past marks up want h.0,
+  AllMarked-caused rose rose' wanted wanted' (Some event.what) past marks up want h.1,
+)

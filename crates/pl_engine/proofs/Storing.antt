@@ -32,7 +32,6 @@ use Rattle.pl_engine.specs.Stored.{Adds, IsComplete, IsKeptUp, Stored}
 use Rattle.pl_engine.proofs.Saving.{is_after_save-le, is_after_save-grown, All-is_after_save-grown, prefix_of-whole, saves_of-grown, AllMarked-strict, AllMarked-more, AllMarked-loosened, AllMarked-followed, AllMarked-caused}
 
 module _ (run : Fixed) (s : Spelling) where
-
   same_saves : (event : Event) (past : List Event) (marks : List ℕ)
       → All (λ mark. is_after_save past mark ≡ true) marks → saves_of run s (event ∷ past) marks ≡ saves_of run s past marks
   same_saves event past marks h = saves_of-grown run s event past marks (recursion_from_All _ marks h)
@@ -56,10 +55,15 @@ module _ (run : Fixed) (s : Spelling) where
     after_saves = All-is_after_save-grown event past marks h.after_saves;
     all_marked = (λ must. absurd (cc), AllMarked-strict None (Some event.what) past marks h.all_marked);
     grown = rw (same_saves event past marks h.after_saves) h.grown;
-    present = elim h.present
-      [ inl none ↦ inl (none.0, same_entries event past need ∙ none.1)
-      | inr some ↦ inr (some.0, same_saves event past marks h.after_saves ∙ some.1
-          ∙ ap (λ (entries : List Entry). some.0 ++ s.state_text (record { stack = run.stack; entries = entries }) ∷ []) (sym (same_entries event past need))) ] }
+    present = elim h.present [
+      | inl none ↦ inl (none.0, same_entries event past need ∙ none.1)
+      | inr some ↦ inr (
+        some.0,
+        same_saves event past marks h.after_saves ∙ some.1
+            ∙ ap (λ (entries : List Entry). some.0 ++ s.state_text (record { stack = run.stack; entries = entries }) ∷ []) (sym (same_entries event past need)),
+      )
+    ];
+  }
 
   -- a complete store is kept up, whatever the causes
   pub IsKeptUp-from_complete : (rose : Type 0) (wanted : Bool) (past : List Event) (marks : List ℕ) (before now : Option (List (List ℕ)))
@@ -68,21 +72,33 @@ module _ (run : Fixed) (s : Spelling) where
     saved = record {
       rising = h.rising;
       after_saves = h.after_saves;
-      all_marked = AllMarked-loosened rose wanted None past marks h.all_marked };
-    grown = (saves_of run s past marks, h.grown, inl refl) }
+      all_marked = AllMarked-loosened rose wanted None past marks h.all_marked;
+    };
+    grown = (saves_of run s past marks, h.grown, inl refl);
+  }
 
   -- the story is still told by a history that grew without a save
   pub IsStory-grown : (rose : Type 0) (event : Event) (past : List Event) (marks : List ℕ) (texts : List (List ℕ))
       → All (λ mark. is_after_save past mark ≡ true) marks
       → IsStory run s rose past marks texts → IsStory run s rose (event ∷ past) marks texts
   IsStory-grown rose event past marks texts after h =
-    let same = same_saves event past marks after in
-    elim h
-    [ inl exact ↦ inl (exact ∙ sym same)
-    | inr more ↦ inr (more.0, more.1 ∙ ap (λ (saves : List (List ℕ)). saves ++ more.0 ∷ []) (sym same), record {
-        cause = more.2.cause;
-        of_prefix = (event ∷ more.2.of_prefix.0, more.2.of_prefix.1,
-          ap (λ (rest : List Event). event ∷ rest) more.2.of_prefix.2, more.2.of_prefix.3) }) ]
+      let same = same_saves event past marks after in
+      elim h [
+        | inl exact ↦ inl (exact ∙ sym same)
+        | inr more ↦ inr (
+          more.0,
+          more.1 ∙ ap (λ (saves : List (List ℕ)). saves ++ more.0 ∷ []) (sym same),
+          record {
+            cause = more.2.cause;
+            of_prefix = (
+              event ∷ more.2.of_prefix.0,
+              more.2.of_prefix.1,
+              ap (λ (rest : List Event). event ∷ rest) more.2.of_prefix.2,
+              more.2.of_prefix.3,
+            );
+          },
+        )
+      ]
 
   pub IsKeptUp-grown : (rose : Type 0) (wanted : Bool) (event : Event) (past : List Event) (marks : List ℕ) (before now : Option (List (List ℕ)))
       → must_save event.what ≡ false → IsKeptUp run s rose wanted past marks before now → IsKeptUp run s rose wanted (event ∷ past) marks before now
@@ -90,15 +106,18 @@ module _ (run : Fixed) (s : Spelling) where
     saved = record {
       rising = h.saved.rising;
       after_saves = All-is_after_save-grown event past marks h.saved.after_saves;
-      all_marked = (λ must. absurd (cc), AllMarked-followed rose wanted event.what past marks h.saved.all_marked) };
-    grown = (h.grown.0, h.grown.1, IsStory-grown rose event past marks h.grown.0 h.saved.after_saves h.grown.2) }
+      all_marked = (λ must. absurd (cc), AllMarked-followed rose wanted event.what past marks h.saved.all_marked);
+    };
+    grown = (h.grown.0, h.grown.1, IsStory-grown rose event past marks h.grown.0 h.saved.after_saves h.grown.2);
+  }
 
   -- an event that need not be saved changes nothing of how the store stands
   pub Stored-grown : (rose : Type 0) (wanted : Bool) (event : Event) (past : List Event) (marks : List ℕ) (before now : Option (List (List ℕ)))
       → must_save event.what ≡ false → Stored run s rose wanted past marks before now → Stored run s rose wanted (event ∷ past) marks before now
   Stored-grown rose wanted event past marks before now need h = record {
     complete = λ none. IsComplete-grown event past marks before now need (h.complete (grind arith));
-    kept_up = λ some. kept (has_stop past) refl }
+    kept_up = λ some. kept (has_stop past) refl;
+  }
     where
       kept : (b : Bool) → has_stop past ≡ b → IsKeptUp run s rose wanted (event ∷ past) marks before now
       kept true is = IsKeptUp-grown rose wanted event past marks before now need (h.kept_up is)
@@ -111,14 +130,14 @@ module _ (run : Fixed) (s : Spelling) where
       → Stored run s rose wanted past marks before now → Stored run s rose wanted (events ++ past) marks before now
   Stored-grown_by rose wanted [] past marks before now need h = h
   Stored-grown_by rose wanted (event ∷ events) past marks before now need h =
-    Stored-grown rose wanted event (events ++ past) marks before now (grind arith)
+      Stored-grown rose wanted event (events ++ past) marks before now (grind arith)
       (Stored-grown_by rose wanted events past marks before now (grind arith) h)
 
   pub Stored-adds : (rose : Type 0) (wanted : Bool) (past new : List Event) (marks : List ℕ) (before now : Option (List (List ℕ)))
       → Adds (λ what. not (must_save what)) past new
       → Stored run s rose wanted past marks before now → Stored run s rose wanted new marks before now
   Stored-adds rose wanted past new marks before now adds h =
-    subst (λ (history : List Event). Stored run s rose wanted history marks before now) (sym adds.1)
+      subst (λ (history : List Event). Stored run s rose wanted history marks before now) (sym adds.1)
       (Stored-grown_by rose wanted adds.0 past marks before now adds.2 h)
 
   -- greater causes
@@ -131,26 +150,34 @@ module _ (run : Fixed) (s : Spelling) where
       saved = record {
         rising = k.saved.rising;
         after_saves = k.saved.after_saves;
-        all_marked = AllMarked-caused rose rose' wanted wanted' None past marks up want k.saved.all_marked };
-      grown = (k.grown.0, k.grown.1, elim k.grown.2
-        [ inl exact ↦ inl exact
-        | inr more ↦ inr (more.0, more.1, record { cause = up more.2.cause; of_prefix = more.2.of_prefix }) ]) } }
+        all_marked = AllMarked-caused rose rose' wanted wanted' None past marks up want k.saved.all_marked;
+      };
+      grown = (
+        k.grown.0,
+        k.grown.1,
+        elim k.grown.2 [
+          | inl exact ↦ inl exact
+          | inr more ↦ inr (more.0, more.1, record { cause = up more.2.cause; of_prefix = more.2.of_prefix })
+        ],
+      );
+    };
+  }
 
   -- the saves with one more, of the whole history
   saves_of-more : (event : Event) (past : List Event) (marks : List ℕ)
       → All (λ mark. is_after_save past mark ≡ true) marks
       → saves_of run s (event ∷ past) (marks ++ suc (length past) ∷ []) ≡ saves_of run s past marks ++ s.state_text (state_of run (event ∷ past)) ∷ []
   saves_of-more event past marks after =
-    map-append (λ (mark : ℕ). s.state_text (state_of run (prefix_of (event ∷ past) mark))) marks (suc (length past) ∷ [])
-    ∙ ap (λ (saves : List (List ℕ)). saves ++ s.state_text (state_of run (prefix_of (event ∷ past) (suc (length past)))) ∷ []) (same_saves event past marks after)
-    ∙ ap (λ (p : List Event). saves_of run s past marks ++ s.state_text (state_of run p) ∷ []) (prefix_of-whole (event ∷ past))
+      map-append (λ (mark : ℕ). s.state_text (state_of run (prefix_of (event ∷ past) mark))) marks (suc (length past) ∷ [])
+      ∙ ap (λ (saves : List (List ℕ)). saves ++ s.state_text (state_of run (prefix_of (event ∷ past) (suc (length past)))) ∷ []) (same_saves event past marks after)
+      ∙ ap (λ (p : List Event). saves_of run s past marks ++ s.state_text (state_of run p) ∷ []) (prefix_of-whole (event ∷ past))
 
   -- a story that grew twice grew by both
   pub Grew-twice : (before middle now : Option (List (List ℕ))) (first second : List (List ℕ))
       → Grew before middle first → Grew middle now second → Grew before now (first ++ second)
   Grew-twice None middle now first second a b = grind (arith, common_steps)
   Grew-twice (Some told) middle now first second a b = b ∙ ap (λ m. option_map (λ (xs : List (List ℕ)). xs ++ second) m) a
-    ∙ ap (λ (xs : List (List ℕ)). Some xs) (append_assoc told first second)
+      ∙ ap (λ (xs : List (List ℕ)). Some xs) (append_assoc told first second)
 
   marks_below : (event : Event) (past : List Event) (marks : List ℕ) → All (λ mark. is_after_save past mark ≡ true) marks
       → All (λ mark. mark < length past + 1) marks
@@ -166,15 +193,18 @@ module _ (run : Fixed) (s : Spelling) where
       → IsComplete run s (event ∷ past) (marks ++ suc (length past) ∷ []) before now
   IsComplete-saved event past marks before middle now must h grew = record {
     rising = all_pairs_push (λ a b. a < b) marks (suc (length past)) h.rising
-      (λ k d below. let le = is_after_save-le past _ (h.after_saves k d below) in omega arith);
+        (λ k d below. let le = is_after_save-le past _ (h.after_saves k d below) in omega arith);
     after_saves = All-push (λ mark. is_after_save (event ∷ past) mark ≡ true) marks (suc (length past))
-      (All-is_after_save-grown event past marks h.after_saves) (marked_last event past must);
-    all_marked = (λ _. inl (inl (let e : suc (length past) ≡ length past + 1 = omega arith in
-        subst (λ (n : ℕ). Contains (marks ++ suc (length past) ∷ []) n) e (Contains-push marks (suc (length past))))),
-      AllMarked-strict None (Some event.what) past (marks ++ suc (length past) ∷ []) (AllMarked-more None past marks (suc (length past)) h.all_marked));
+        (All-is_after_save-grown event past marks h.after_saves) (marked_last event past must);
+    all_marked = (
+      λ _. inl (inl (let e : suc (length past) ≡ length past + 1 = omega arith in
+          subst (λ (n : ℕ). Contains (marks ++ suc (length past) ∷ []) n) e (Contains-push marks (suc (length past))))),
+      AllMarked-strict None (Some event.what) past (marks ++ suc (length past) ∷ []) (AllMarked-more None past marks (suc (length past)) h.all_marked),
+    );
     grown = subst (λ (texts : List (List ℕ)). Grew before now texts) (sym (saves_of-more event past marks h.after_saves))
-      (Grew-twice before middle now (saves_of run s past marks) (s.state_text (state_of run (event ∷ past)) ∷ []) h.grown grew);
-    present = inr (saves_of run s past marks, saves_of-more event past marks h.after_saves) }
+        (Grew-twice before middle now (saves_of run s past marks) (s.state_text (state_of run (event ∷ past)) ∷ []) h.grown grew);
+    present = inr (saves_of run s past marks, saves_of-more event past marks h.after_saves);
+  }
 
   -- an event whose save failed, with the stop after it; its text may have arrived all the same
   pub IsKeptUp-failed : (rose : Type 0) (wanted : Bool) (seat : ℕ) (event : Event) (past : List Event) (marks : List ℕ) (before middle now : Option (List (List ℕ)))
@@ -182,40 +212,57 @@ module _ (run : Fixed) (s : Spelling) where
       → IsKeptOrAdded middle now (s.state_text (state_of run (event ∷ past)))
       → IsKeptUp run s rose wanted (record { seat = seat; what = Stopped StoreFault } ∷ event ∷ past) marks before now
   IsKeptUp-failed rose wanted seat event past marks before middle now cause h arrived =
-    let stop : Event = record { seat = seat; what = Stopped StoreFault } in
-    let after = All-is_after_save-grown event past marks h.after_saves in
-    let same = same_saves stop (event ∷ past) marks after ∙ same_saves event past marks h.after_saves in
-    record {
-      saved = record {
-        rising = h.rising;
-        after_saves = All-is_after_save-grown stop (event ∷ past) marks after;
-        all_marked = (λ must. absurd (cc),
-          (λ must. inl (inr (record { cause = cause; none_later = marks_below event past marks h.after_saves; stopped = inl refl })),
-           AllMarked-loosened rose wanted (Some event.what) past marks (AllMarked-strict None (Some event.what) past marks h.all_marked))) };
-      grown = elim arrived
-        [ inl kept ↦ (saves_of run s past marks, subst (λ (story : Option (List (List ℕ))). Grew before story (saves_of run s past marks)) (sym kept) h.grown, inl (sym same))
-        | inr added ↦ (saves_of run s past marks ++ s.state_text (state_of run (event ∷ past)) ∷ [],
+      let stop : Event = record { seat = seat; what = Stopped StoreFault } in
+      let after = All-is_after_save-grown event past marks h.after_saves in
+      let same = same_saves stop (event ∷ past) marks after ∙ same_saves event past marks h.after_saves in
+      record {
+        saved = record {
+          rising = h.rising;
+          after_saves = All-is_after_save-grown stop (event ∷ past) marks after;
+          all_marked = (
+            λ must. absurd (cc),
+            (
+              λ must. inl (inr (record { cause = cause; none_later = marks_below event past marks h.after_saves; stopped = inl refl })),
+              AllMarked-loosened rose wanted (Some event.what) past marks (AllMarked-strict None (Some event.what) past marks h.all_marked),
+            ),
+          );
+        };
+        grown = elim arrived [
+          | inl kept ↦ (saves_of run s past marks, subst (λ (story : Option (List (List ℕ))). Grew before story (saves_of run s past marks)) (sym kept) h.grown, inl (sym same))
+          | inr added ↦ (
+            saves_of run s past marks ++ s.state_text (state_of run (event ∷ past)) ∷ [],
             Grew-twice before middle now (saves_of run s past marks) (s.state_text (state_of run (event ∷ past)) ∷ []) h.grown added,
-            inr (s.state_text (state_of run (event ∷ past)),
+            inr (
+              s.state_text (state_of run (event ∷ past)),
               ap (λ (saves : List (List ℕ)). saves ++ s.state_text (state_of run (event ∷ past)) ∷ []) (sym same),
-              record { cause = cause; of_prefix = (stop ∷ [], event ∷ past, refl, refl) })) ] }
+              record { cause = cause; of_prefix = (stop ∷ [], event ∷ past, refl, refl) },
+            ),
+          )
+        ];
+      }
 
   -- an event that was not saved for want of memory, with the stop after it
   pub IsKeptUp-wanted : (rose : Type 0) (seat : ℕ) (event : Event) (past : List Event) (marks : List ℕ) (before now : Option (List (List ℕ)))
       → IsComplete run s past marks before now
       → IsKeptUp run s rose true (record { seat = seat; what = Stopped NoMemory } ∷ event ∷ past) marks before now
   IsKeptUp-wanted rose seat event past marks before now h =
-    let stop : Event = record { seat = seat; what = Stopped NoMemory } in
-    let after = All-is_after_save-grown event past marks h.after_saves in
-    let same = same_saves stop (event ∷ past) marks after ∙ same_saves event past marks h.after_saves in
-    record {
-      saved = record {
-        rising = h.rising;
-        after_saves = All-is_after_save-grown stop (event ∷ past) marks after;
-        all_marked = (λ must. absurd (cc),
-          (λ must. inr (record { cause = refl; stopped = inl refl }),
-           AllMarked-loosened rose true (Some event.what) past marks (AllMarked-strict None (Some event.what) past marks h.all_marked))) };
-      grown = (saves_of run s past marks, h.grown, inl (sym same)) }
+      let stop : Event = record { seat = seat; what = Stopped NoMemory } in
+      let after = All-is_after_save-grown event past marks h.after_saves in
+      let same = same_saves stop (event ∷ past) marks after ∙ same_saves event past marks h.after_saves in
+      record {
+        saved = record {
+          rising = h.rising;
+          after_saves = All-is_after_save-grown stop (event ∷ past) marks after;
+          all_marked = (
+            λ must. absurd (cc),
+            (
+              λ must. inr (record { cause = refl; stopped = inl refl }),
+              AllMarked-loosened rose true (Some event.what) past marks (AllMarked-strict None (Some event.what) past marks h.all_marked),
+            ),
+          );
+        };
+        grown = (saves_of run s past marks, h.grown, inl (sym same));
+      }
 
   -- an event that need not be saved, with causes that may have grown
   pub Stored-step : (rose rose' : Type 0) (wanted wanted' : Bool) (past new : List Event) (marks marks' : List ℕ) (before now : Option (List (List ℕ)))
@@ -223,9 +270,9 @@ module _ (run : Fixed) (s : Spelling) where
       → Adds (λ what. not (must_save what)) past new → marks' ≡ marks
       → Stored run s rose wanted past marks before now → Stored run s rose' wanted' new marks' before now
   Stored-step rose rose' wanted wanted' past new marks marks' before now up want adds same h =
-    subst (λ (ms : List ℕ). Stored run s rose' wanted' new ms before now) (sym same)
+      subst (λ (ms : List ℕ). Stored run s rose' wanted' new ms before now) (sym same)
       (Stored-caused rose rose' wanted wanted' new marks before now up want
-        (Stored-adds rose wanted past new marks before now adds h))
+      (Stored-adds rose wanted past new marks before now adds h))
 
   -- a keep with its save
   pub Stored-saved : (rose rose' : Type 0) (wanted wanted' : Bool) (past new : List Event) (goal : ℕ) (marks marks' : List ℕ) (before middle now : Option (List (List ℕ)))
@@ -233,15 +280,16 @@ module _ (run : Fixed) (s : Spelling) where
       → Grew middle now (s.state_text (state_of run new) ∷ [])
       → Stored run s rose wanted past marks before middle → Stored run s rose' wanted' new marks' before now
   Stored-saved rose rose' wanted wanted' past new goal marks marks' before middle now going is marked grew h =
-    let P : List Event → Type 0 = λ history. marks' ≡ marks ++ length history ∷ [] in
-    let Q : List Event → Type 0 = λ history. Grew middle now (s.state_text (state_of run history) ∷ []) in
-    let marked' : marks' ≡ marks ++ suc (length past) ∷ [] = subst P is marked in
-    let grew' : Grew middle now (s.state_text (state_of run (kept_event goal ∷ past)) ∷ []) = subst Q is grew in
-    subst (λ (history : List Event). Stored run s rose' wanted' history marks' before now) (sym is)
+      let P : List Event → Type 0 = λ history. marks' ≡ marks ++ length history ∷ [] in
+      let Q : List Event → Type 0 = λ history. Grew middle now (s.state_text (state_of run history) ∷ []) in
+      let marked' : marks' ≡ marks ++ suc (length past) ∷ [] = subst P is marked in
+      let grew' : Grew middle now (s.state_text (state_of run (kept_event goal ∷ past)) ∷ []) = subst Q is grew in
+      subst (λ (history : List Event). Stored run s rose' wanted' history marks' before now) (sym is)
       (subst (λ (ms : List ℕ). Stored run s rose' wanted' (kept_event goal ∷ past) ms before now) (sym marked')
-        (record {
-          complete = λ none. IsComplete-saved (kept_event goal) past marks before middle now refl (h.complete going) grew';
-          kept_up = λ some. absurd (let e : has_stop past ≡ true = some in cc) }))
+      (record {
+        complete = λ none. IsComplete-saved (kept_event goal) past marks before middle now refl (h.complete going) grew';
+        kept_up = λ some. absurd (let e : has_stop past ≡ true = some in cc);
+      }))
 
   -- a keep whose save failed, with the stop that says so
   pub Stored-unsaved : (rose rose' : Type 0) (wanted wanted' : Bool) (past new : List Event) (goal : ℕ) (stop : Stop) (marks marks' : List ℕ) (before middle now : Option (List (List ℕ)))
@@ -250,21 +298,22 @@ module _ (run : Fixed) (s : Spelling) where
       → IfWant stop (now ≡ middle) → IfWant stop (wanted' ≡ true)
       → Stored run s rose wanted past marks before middle → Stored run s rose' wanted' new marks' before now
   Stored-unsaved rose rose' wanted wanted' past new goal stop marks marks' before middle now going is same cause arrived kept want h =
-    subst (λ (history : List Event). Stored run s rose' wanted' history marks' before now) (sym is)
+      subst (λ (history : List Event). Stored run s rose' wanted' history marks' before now) (sym is)
       (subst (λ (ms : List ℕ). Stored run s rose' wanted' (stop_event stop ∷ kept_event goal ∷ past) ms before now) (sym same)
-        (record {
-          complete = λ none. absurd (let e : true ≡ false = none in cc);
-          kept_up = λ _. left stop cause arrived kept want }))
+      (record {
+        complete = λ none. absurd (let e : true ≡ false = none in cc);
+        kept_up = λ _. left stop cause arrived kept want;
+      }))
     where
       left : (stop : Stop) → IfFault stop rose' → IfFault stop (IsKeptOrAdded middle now (s.state_text (state_of run (kept_event goal ∷ past))))
           → IfWant stop (now ≡ middle) → IfWant stop (wanted' ≡ true)
           → IsKeptUp run s rose' wanted' (stop_event stop ∷ kept_event goal ∷ past) marks before now
       left StoreFault cause arrived kept want =
-        IsKeptUp-failed rose' wanted' 0 (kept_event goal) past marks before middle now cause (h.complete going) arrived
+          IsKeptUp-failed rose' wanted' 0 (kept_event goal) past marks before middle now cause (h.complete going) arrived
       left NoMemory cause arrived kept want =
-        subst (λ (story : Option (List (List ℕ))). IsKeptUp run s rose' wanted' (stop_event NoMemory ∷ kept_event goal ∷ past) marks before story) (sym kept)
+          subst (λ (story : Option (List (List ℕ))). IsKeptUp run s rose' wanted' (stop_event NoMemory ∷ kept_event goal ∷ past) marks before story) (sym kept)
           (subst (λ (w : Bool). IsKeptUp run s rose' w (stop_event NoMemory ∷ kept_event goal ∷ past) marks before middle) (sym want)
-            (IsKeptUp-wanted rose' 0 (kept_event goal) past marks before middle (h.complete going)))
+          (IsKeptUp-wanted rose' 0 (kept_event goal) past marks before middle (h.complete going)))
       left HostPipeFault cause arrived kept want = absurd cause
       left TooManyResources cause arrived kept want = absurd cause
       left MessageTooLong cause arrived kept want = absurd cause
@@ -333,4 +382,3 @@ pub run_same : (run : Fixed) (journal : Journal) → Consistent run journal → 
 run_same run journal h =
     ap (λ (stack : List ℕ). record { stack = stack; project = journal.project }) h.stack
     ∙ ap (λ (project : List ℕ). record { stack = run.stack; project = project }) h.project
-

@@ -37,7 +37,7 @@ pub record Written (run : Fixed) (faults : ℕ) (wanted failed : Bool) (history 
     (given : Option (List Piece)) : Type 0 where
   pub exact : failed ≡ false → IfSome given (IsAnswered run history)
   pub loose : failed ≡ true → IfSome given
-    (HostGave run host_spelling (record { faults = faults; ends = 0; wanted = wanted }) history)
+      (HostGave run host_spelling (record { faults = faults; ends = 0; wanted = wanted }) history)
   pub cause : failed ≡ true → Rose 0 faults ⊎ (wanted ≡ true)
 
 -- where the half stood so to the history, it stands so again

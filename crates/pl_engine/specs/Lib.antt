@@ -6,3 +6,4 @@ pub mod Kept
 pub mod Answered
 pub mod Heard
 pub mod Running
+pub mod Headline

@@ -20,7 +20,8 @@ is_success_word (Some Success) = true
 -- the spelling of the host's messages and of the checkpoint
 unfoldable pub host_spelling : Spelling
 host_spelling = record {
-    request_in = λ body. option_and_then request_of_word (word_of body);
-    is_success = λ body. is_success_word (word_of body);
-    answer_text = answer_text;
-    state_text = checkpoint_text }
+  request_in = λ body. option_and_then request_of_word (word_of body);
+  is_success = λ body. is_success_word (word_of body);
+  answer_text = answer_text;
+  state_text = checkpoint_text;
+}

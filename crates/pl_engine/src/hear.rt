@@ -6,12 +6,11 @@ ghost use Rattle.pl_host_msg.specs.Word.{word_of};
 ghost use Rattle.pl_model.specs.HostLines.{IsBadLength};
 ghost use Rattle.pl_engine.specs.Heard.{EndHeard, IfEnded, IfFaulted, IsHeard, IsLengthEnd, IsUnread};
 
-use std::alloc::Global;
-
 use pl_events::HostEnd;
 use pl_host_msg::{HostWord, MsgIn, request_of};
 use pl_value::Bytes;
 use pl_world::{FrameIn, Pipe, read_frame};
+use std::alloc::Global;
 
 /// A message of the host, and the body that spelled it.
 #[derive(Debug, Drop)]

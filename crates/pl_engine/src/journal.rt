@@ -80,7 +80,8 @@ fn is_want(stop: Stop) -> bool
 {
     match stop {
         Stop::NoMemory => true,
-        Stop::StoreFault | Stop::HostPipeFault | Stop::TooManyResources | Stop::MessageTooLong => false,
+        Stop::StoreFault | Stop::HostPipeFault | Stop::TooManyResources | Stop::MessageTooLong =>
+            false,
     }
 }
 

@@ -5,11 +5,10 @@ ghost use Rattle.pl_model.specs.Requests.{goal_for};
 ghost use Rattle.pl_model.specs.Due.{parent_stands};
 ghost use Rattle.pl_engine.specs.Judged.{is_placeable, IsPlacedFor, state_run};
 
-use std::alloc::{AllocError, Global};
-
 use pl_state::{Entries, Entry, Registration, Snapshot};
 use pl_urn::{Urn, UrnFault, child};
 use pl_value::{OutOfMemory, Text};
+use std::alloc::{AllocError, Global};
 
 /// Why a registration makes no entry.
 #[derive(Clone, Copy, Debug)]
@@ -100,7 +99,14 @@ fn make_urn(
 {
     let stack = state.stack.as_str();
     let kind = told.kind.as_str();
-    match child(alloc, parent, stack, project.as_str(), kind, told.name.as_str()) {
+    match child(
+        alloc,
+        parent,
+        stack,
+        project.as_str(),
+        kind,
+        told.name.as_str(),
+    ) {
         Ok(urn) => Ok(urn),
         Err(UrnFault::OutOfMemory) => Err(Refusal::NoMemory),
         Err(UrnFault::NoPrefix) => Err(Refusal::NotNext),

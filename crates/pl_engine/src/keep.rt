@@ -9,14 +9,12 @@ ghost use Rattle.pl_engine.specs.Spelled.{host_spelling};
 ghost use Rattle.pl_engine.specs.Journal.{Consistent, run_of};
 ghost use Rattle.pl_engine.specs.Kept.{IfFault, IfWant, KeepsStored, Recorded};
 
-use std::alloc::Global;
-
+use crate::journal::Journal;
 use pl_checkpoint::write;
 use pl_events::Stop;
 use pl_state::Entry;
 use pl_world::{Store, Trouble};
-
-use crate::journal::Journal;
+use std::alloc::Global;
 
 /// Records the entry of a goal and replaces the checkpoint; what fails becomes a stop. Answers whether
 /// the entry was recorded.

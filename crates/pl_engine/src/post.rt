@@ -9,15 +9,13 @@ ghost use Rattle.pl_engine.specs.Spelled.{host_spelling};
 ghost use Rattle.pl_engine.specs.Journal.{Consistent, run_of};
 ghost use Rattle.pl_engine.specs.Answered.{Answers, Gives, KeepsWritten, Stops, urn_of};
 
-use std::alloc::Global;
-
+use crate::journal::Journal;
 use pl_events::{Answer, Stop};
 use pl_host_msg::{MsgOut, answer_bytes, halted_bytes};
 use pl_urn::Urn;
 use pl_value::{Bytes, OutOfMemory};
 use pl_world::{Pipe, Trouble, write_frame};
-
-use crate::journal::Journal;
+use std::alloc::Global;
 
 /// The half that answers go out by.
 #[derive(Drop)]

@@ -1,4 +1,4 @@
-ghost use Rattle.std.specs.Prelude.{◌≡◌, ◌≤◌, ◌<◌, ◌^◌, ◌∷◌, true, false, None, Some, IfErr, OnErr, OnOk, length, nat_lt, []};
+ghost use Rattle.std.specs.Prelude.{◌≡◌, ◌≤◌, ◌<◌, ◌^◌, ◌∷◌, true, false, not, ℕ, None, Some, IfOk, length, nat_lt, []};
 ghost use Rattle.pl_model.specs.Requests.{goal_at, goal_for, goals_of};
 ghost use Rattle.pl_model.specs.Entries.{entry_if};
 ghost use Rattle.pl_model.specs.Due.{has_room, is_ready, NothingDue};
@@ -6,19 +6,27 @@ ghost use Rattle.pl_engine.specs.Journal.{Consistent, run_of};
 ghost use Rattle.pl_engine.specs.Judged.{is_placeable, IsPlacedFor};
 ghost use Rattle.pl_engine.specs.Kept.{KeepsStored};
 ghost use Rattle.pl_engine.specs.Answered.{KeepsWritten};
-ghost use Rattle.pl_engine.specs.Running.{AtRest, Goes, Over, RecordedAs};
+ghost use Rattle.pl_model.specs.Saves.{must_save};
+ghost use Rattle.pl_engine.specs.Stored.{Adds};
+ghost use Rattle.pl_engine.specs.Running.{AtRest, EndedBy, Goes, KeepsTaken, Over, RecordedAs, Registered, Stands};
+ghost use Rattle.pl_urn.specs.Grammar.{IsScope};
+ghost use Rattle.pl_events.specs.Closing.{has_host_end};
+ghost use Rattle.pl_model.specs.Problems.{outcome_of_event, problem_of_end};
 
-use std::alloc::Global;
-
-use pl_events::{HostEnd, Stop};
-use pl_state::Registration;
-use pl_urn::Urn;
-use pl_world::{Pipe, Store};
-
+use crate::hear::{Heard, hear};
 use crate::journal::Journal;
-use crate::judge::Placed;
+use crate::judge::{Placed, Refusal, place};
 use crate::keep::keep;
 use crate::post::{Writing, post};
+use pl_decide::{Child, Outcome};
+use pl_events::{HostEnd, Request, Stop};
+use pl_host_msg::HostWord;
+use pl_state::Registration;
+use pl_urn::Urn;
+use pl_value::{Bytes, OutOfMemory};
+use pl_world::{Pipe, Store};
+use std::alloc::Global;
+use std::sync::Wait;
 
 /// The most resources that a state may hold.
 const MOST_RESOURCES: u64 = 10_000;
@@ -37,6 +45,8 @@ fn halt<Q: Pipe>(
     requires above { journal.old.last < n }
     ensures goes { Goes result n told (run_of journal.old) journal.old journal.new writing.new.failed }
     ensures marks { journal.new.marks.items ≡ journal.old.marks.items }
+    ensures unsaved { Adds (λ what. not (must_save what)) journal.old.history journal.new.history }
+    ensures wanted { journal.old.wanted ≡ true → journal.new.wanted ≡ true }
     ensures faults_never_fall { Q.faults writing.old.half ≤ Q.faults writing.new.half }
     ensures written { KeepsWritten (run_of journal.old) journal.old journal.new writing.old.failed writing.new.failed
         (Q.faults writing.old.half) (Q.faults writing.new.half) (Q.given writing.old.half) (Q.given writing.new.half) }
@@ -122,5 +132,159 @@ fn record_goal<S: Store>(
         Some(urn)
     } else {
         None
+    }
+}
+
+/// Writes down how the host's messages ended. Where the problem that this is can't be copied out for want
+/// of memory, that is the end.
+fn end_messages(alloc: Global, journal: &mut Journal, end: HostEnd)
+    requires consistent { Consistent (run_of journal.old) journal.old }
+    requires host_open { has_host_end journal.old.history ≡ false }
+    ensures consistent { Consistent (run_of journal.old) journal.new }
+    ensures ended { EndedBy end journal.old.history journal.new.history journal.new.wanted }
+    ensures marks { journal.new.marks.items ≡ journal.old.marks.items }
+    ensures wanted { journal.old.wanted ≡ true → journal.new.wanted ≡ true }
+{
+    match outcome_of_end(alloc, &end) {
+        Ok(outcome) => journal.end_host(end, outcome),
+        Err(_) => journal.end_host(HostEnd::NoMemory, None),
+    }
+}
+
+/// The outcome that the end's problem gives, if it gives one.
+fn outcome_of_end(alloc: Global, end: &HostEnd) -> Result<Option<Outcome>, OutOfMemory>
+    ensures { IfOk result (λ outcome. (at : ℕ) → outcome ≡ outcome_of_event at (problem_of_end end.now)) }
+{
+    match end {
+        HostEnd::Success => Ok(None),
+        HostEnd::NoMemory => Ok(None),
+        HostEnd::Ended => Ok(Some(Outcome::ChildEnded(Child::Host))),
+        HostEnd::PipeFault => Ok(Some(Outcome::PipeFault(Child::Host))),
+        HostEnd::BadFrame(bytes) => {
+            let bytes = Bytes::from_slice(alloc, bytes.as_slice())?;
+            Ok(Some(Outcome::BadFrame {
+                child: Child::Host,
+                bytes,
+            }))
+        }
+    }
+}
+
+/// Takes up a registration, spelled by `body`. Answers whether the host may go on.
+fn register<S: Store, Q: Pipe>(
+    alloc: Global,
+    journal: &mut Journal,
+    store: &mut S,
+    writing: &mut Writing<Q>,
+    n: u64,
+    told: Registration,
+    body: Bytes,
+) -> bool
+    requires rest { AtRest (run_of journal.old) journal.old writing.old.failed }
+    requires stack { IsScope journal.old.state.stack }
+    requires project { IsScope journal.old.project }
+    requires within { n ≤ 2 ^ 53 }
+    ensures did { Registered result (Request.Register n told) body (run_of journal.old) journal.old journal.new writing.new.failed }
+    ensures faults_never_fall { S.faults store.old ≤ S.faults store.new }
+    ensures half_faults_never_fall { Q.faults writing.old.half ≤ Q.faults writing.new.half }
+    ensures stored { KeepsStored (run_of journal.old) journal.old journal.new
+        (S.faults store.old) (S.faults store.new) (S.story store.old) (S.story store.new) }
+    ensures written { KeepsWritten (run_of journal.old) journal.old journal.new writing.old.failed writing.new.failed
+        (Q.faults writing.old.half) (Q.faults writing.new.half) (Q.given writing.old.half) (Q.given writing.new.half) }
+{
+    if n <= journal.last {
+        end_messages(alloc, journal, HostEnd::BadFrame(body));
+        return false;
+    }
+    if journal.halted {
+        return halt(alloc, journal, writing, n, told);
+    }
+    match place(alloc, &journal.state, &journal.project, &told) {
+        Ok(placed) => accept(alloc, journal, store, writing, n, told, placed),
+        Err(Refusal::NotNext) => {
+            end_messages(alloc, journal, HostEnd::BadFrame(body));
+            false
+        }
+        Err(Refusal::NoMemory) => {
+            end_messages(alloc, journal, HostEnd::NoMemory);
+            false
+        }
+    }
+}
+
+/// Takes up the host's next message. Answers whether the host may go on.
+fn step<S: Store, Q: Pipe>(
+    alloc: Global,
+    journal: &mut Journal,
+    store: &mut S,
+    reading: &mut Q,
+    writing: &mut Writing<Q>,
+) -> bool
+    requires rest { AtRest (run_of journal.old) journal.old writing.old.failed }
+    requires stack { IsScope journal.old.state.stack }
+    requires project { IsScope journal.old.project }
+    ensures stands { Stands result (run_of journal.old) journal.new writing.new.failed }
+    ensures taken { KeepsTaken result (run_of journal.old) journal.old.history journal.new.history journal.new.wanted
+        (Q.taken reading.old) (Q.taken reading.new) (Q.faults reading.new) (Q.ends reading.new) }
+    ensures faults_never_fall { S.faults store.old ≤ S.faults store.new }
+    ensures half_faults_never_fall { Q.faults writing.old.half ≤ Q.faults writing.new.half }
+    ensures stored { KeepsStored (run_of journal.old) journal.old journal.new
+        (S.faults store.old) (S.faults store.new) (S.story store.old) (S.story store.new) }
+    ensures written { KeepsWritten (run_of journal.old) journal.old journal.new writing.old.failed writing.new.failed
+        (Q.faults writing.old.half) (Q.faults writing.new.half) (Q.given writing.old.half) (Q.given writing.new.half) }
+{
+    match hear(alloc, reading) {
+        Err(end) => {
+            end_messages(alloc, journal, end);
+            false
+        }
+        Ok(Heard { word, body }) => match word {
+            HostWord::Success => {
+                journal.end_host(HostEnd::Success, None);
+                false
+            }
+            HostWord::Request(request) => {
+                let (n, told) = parts(request);
+                register(alloc, journal, store, writing, n, told, body)
+            }
+        },
+    }
+}
+
+/// The number and the registration of a request.
+fn parts(request: Request) -> (u64, Registration)
+    ensures { Request.Register result.0 result.1 ≡ request }
+{
+    match request {
+        Request::Register { n, told } => (n, told),
+    }
+}
+
+/// Serves the host until its messages end.
+pub fn serve<R: Wait, S: Store, Q: Pipe>(
+    rt: &R,
+    alloc: Global,
+    journal: &mut Journal,
+    store: &mut S,
+    reading: &mut Q,
+    writing: &mut Writing<Q>,
+)
+    requires rest { AtRest (run_of journal.old) journal.old writing.old.failed }
+    requires stack { IsScope journal.old.state.stack }
+    requires project { IsScope journal.old.project }
+    ensures over { Over (run_of journal.old) journal.new writing.new.failed }
+    ensures taken { KeepsTaken false (run_of journal.old) journal.old.history journal.new.history journal.new.wanted
+        (Q.taken reading.old) (Q.taken reading.new) (Q.faults reading.new) (Q.ends reading.new) }
+    ensures faults_never_fall { S.faults store.old ≤ S.faults store.new }
+    ensures half_faults_never_fall { Q.faults writing.old.half ≤ Q.faults writing.new.half }
+    ensures stored { KeepsStored (run_of journal.old) journal.old journal.new
+        (S.faults store.old) (S.faults store.new) (S.story store.old) (S.story store.new) }
+    ensures written { KeepsWritten (run_of journal.old) journal.old journal.new writing.old.failed writing.new.failed
+        (Q.faults writing.old.half) (Q.faults writing.new.half) (Q.given writing.old.half) (Q.given writing.new.half) }
+{
+    for _ in rt.forever() {
+        if !step(alloc, journal, store, reading, writing) {
+            return;
+        }
     }
 }

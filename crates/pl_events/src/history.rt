@@ -1,4 +1,4 @@
-ghost use Rattle.std.specs.Prelude.{◌≡◌, [], ◌∷◌, false, IfErr, IfOk, length, OnErr, OnOk};
+ghost use Rattle.std.specs.Prelude.{◌≡◌, [], ◌∷◌, false, IfErr, IfOk, length, reverse, OnErr, OnOk};
 ghost use Rattle.pl_events.specs.Closing.{has_host_end, has_stop};
 
 use crate::event::{Event, HostEnd, Stop, What};
@@ -83,5 +83,13 @@ impl History {
                 what: What::Stopped(stop),
             })
             .unwrap();
+    }
+
+    /// Gives the events back, the oldest first; takes no memory.
+    pub fn into_events(self) -> Vec<Event>
+        ensures { reverse result.items ≡ self }
+    {
+        let History { events } = self;
+        events
     }
 }

@@ -85,15 +85,15 @@ answers_of run spelling (event ∷ past) =
 pub record IsOneMore (run : Fixed) (spelling : Spelling) (half : Causes) (history : List Event) (more : List ℕ) : Type 0 where
   pub cause : Rose 0 half.faults ⊎ (half.wanted ≡ true)
   pub of_due : (later past : List Event) × (n : ℕ) × (history ≡ later ++ past)
-    × (is_post_due run past n ≡ true)
-    × ((rest : List ℕ) × (more ++ rest ≡ frame_of (spelling.answer_text n (answer_of run spelling past n))))
+      × (is_post_due run past n ≡ true)
+      × ((rest : List ℕ) × (more ++ rest ≡ frame_of (spelling.answer_text n (answer_of run spelling past n))))
 
 -- the bytes that the writing half was given
 abbrev pub HasAnswered : Fixed → Spelling → Causes → List Event → List ℕ → Type 0
 HasAnswered run spelling half history given =
     (given ≡ answers_of run spelling history)
     ⊎ ((more : List ℕ) × (given ≡ answers_of run spelling history ++ more)
-      × IsOneMore run spelling half history more)
+    × IsOneMore run spelling half history more)
 
 -- what the writing half was given: the answers, and no piece with a cover
 pub record HostGave (run : Fixed) (spelling : Spelling) (half : Causes) (history : List Event) (pieces : List Piece) : Type 0 where

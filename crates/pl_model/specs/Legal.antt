@@ -32,7 +32,7 @@ pub record MayBeTooMany (run : Fixed) (past : List Event) : Type 0 where
 -- a post is due whose body a frame can't have
 pub record MayBeTooLong (run : Fixed) (spelling : Spelling) (past : List Event) : Type 0 where
   pub some_post : (n : ℕ) × (is_post_due run past n ≡ true)
-    × (is_too_long spelling n (answer_for (result_of run past n)) ≡ true)
+      × (is_too_long spelling n (answer_for (result_of run past n)) ≡ true)
 
 -- what a stop tells of the history before it
 abbrev pub StopFits : Fixed → Spelling → List Event → Stop → Type 0

@@ -32,9 +32,10 @@ last_number (event ∷ past) = number_after event.what (last_number past)
 -- the goal that a registration makes
 abbrev pub goal_for : Fixed → Registration → Goal
 goal_for run told = record {
-    urn = child_text told.parent run.stack run.project told.kind told.name;
-    kind = told.kind;
-    parent = told.parent }
+  urn = child_text told.parent run.stack run.project told.kind told.name;
+  kind = told.kind;
+  parent = told.parent;
+}
 
 abbrev pub goal_of : Fixed → Request → Goal
 goal_of run (Register n told) = goal_for run told

@@ -71,11 +71,11 @@ pub record IsSaved (rose : Type 0) (wanted : Bool) (history : List Event) (marks
 pub record IsFurther (run : Fixed) (spelling : Spelling) (rose : Type 0) (history : List Event) (text : List ℕ) : Type 0 where
   pub cause : rose
   pub of_prefix : (later past : List Event) × (history ≡ later ++ past)
-    × (text ≡ spelling.state_text (state_of run past))
+      × (text ≡ spelling.state_text (state_of run past))
 
 -- the texts by which the story grew: the saves, and at most one further text, the last
 abbrev pub IsStory : Fixed → Spelling → Type 0 → List Event → List ℕ → List (List ℕ) → Type 0
 IsStory run spelling rose history marks texts =
     (texts ≡ saves_of run spelling history marks)
     ⊎ ((text : List ℕ) × (texts ≡ saves_of run spelling history marks ++ text ∷ [])
-      × IsFurther run spelling rose history text)
+    × IsFurther run spelling rose history text)

@@ -19,14 +19,18 @@ returns-in-Ok-clause-body c = IsBody-answer c.args.n (Registered c.in-Some.urn) 
 pub returns-in-Ok-clause-answer : goal.returns-in-Ok-clause-answer
 returns-in-Ok-clause-answer c =
     c.in-Ok.ensures.bytes ∙ ap (λ (a : Answer). answer_text c.args.n a)
-      (sym (answer_of-fits (run_of c.args.journal.now) c.args.journal.now.history c.args.n c.in-Some.urn (c.requires.result ∙ c.in-Some.is)
-        (subst (λ (b : List ℕ). length b ≤ longest_body) c.in-Ok.ensures.bytes c.in-Ok.ensures.fits)))
+    (sym (answer_of-fits (run_of c.args.journal.now) c.args.journal.now.history c.args.n c.in-Some.urn (c.requires.result ∙ c.in-Some.is)
+    (subst (λ (b : List ℕ). length b ≤ longest_body) c.in-Ok.ensures.bytes c.in-Ok.ensures.fits)))
 
 pub stop-requires-clause-fits : goal.stop-requires-clause-fits
 stop-requires-clause-fits c = λ _. record {
-    some_post = (c.args.n, c.requires.due,
-      too_long-result (run_of c.args.journal.now) c.args.journal.now.history c.args.n c.in-Some.urn (c.requires.result ∙ c.in-Some.is)
-        (over_limit c.in-Err-TooLong.field-0 c.in-Err-TooLong.field-0-0 c.args.n (Registered c.in-Some.urn) c.in-Err-TooLong.field-0-is c.in-Err-TooLong.ensures.too_long c.in-Err-TooLong.ensures.over)) }
+  some_post = (
+    c.args.n,
+    c.requires.due,
+    too_long-result (run_of c.args.journal.now) c.args.journal.now.history c.args.n c.in-Some.urn (c.requires.result ∙ c.in-Some.is)
+        (over_limit c.in-Err-TooLong.field-0 c.in-Err-TooLong.field-0-0 c.args.n (Registered c.in-Some.urn) c.in-Err-TooLong.field-0-is c.in-Err-TooLong.ensures.too_long c.in-Err-TooLong.ensures.over),
+  );
+}
 
 pub returns-clause-body : goal.returns-clause-body
 returns-clause-body c = IsBody-if c.args.n halted c.halted_bytes-in-Err-TooLong.result c.halted_bytes-in-Err-TooLong.ensures.bytes c.halted_bytes-in-Err-TooLong.ensures.fits
@@ -34,8 +38,8 @@ returns-clause-body c = IsBody-if c.args.n halted c.halted_bytes-in-Err-TooLong.
 pub returns-clause-answer : goal.returns-clause-answer
 returns-clause-answer c =
     text-if c.args.n _ c.halted_bytes-in-Err-TooLong.result
-      (answer_of-stopped (run_of c.args.journal.now) MessageTooLong c.args.journal.now.stopped c.args.journal.now.history c.stop.new.self.history c.args.n
-        c.stop.ensures.history (λ stopped. sym c.requires.consistent.halted ∙ c.requires.consistent.halting stopped)
-        (too_long-result (run_of c.args.journal.now) c.args.journal.now.history c.args.n c.in-Some.urn (c.requires.result ∙ c.in-Some.is)
-          (over_limit c.in-Err-TooLong.field-0 c.in-Err-TooLong.field-0-0 c.args.n (Registered c.in-Some.urn) c.in-Err-TooLong.field-0-is c.in-Err-TooLong.ensures.too_long c.in-Err-TooLong.ensures.over)))
-      c.halted_bytes-in-Err-TooLong.ensures.bytes
+    (answer_of-stopped (run_of c.args.journal.now) MessageTooLong c.args.journal.now.stopped c.args.journal.now.history c.stop.new.self.history c.args.n
+    c.stop.ensures.history (λ stopped. sym c.requires.consistent.halted ∙ c.requires.consistent.halting stopped)
+    (too_long-result (run_of c.args.journal.now) c.args.journal.now.history c.args.n c.in-Some.urn (c.requires.result ∙ c.in-Some.is)
+    (over_limit c.in-Err-TooLong.field-0 c.in-Err-TooLong.field-0-0 c.args.n (Registered c.in-Some.urn) c.in-Err-TooLong.field-0-is c.in-Err-TooLong.ensures.too_long c.in-Err-TooLong.ensures.over)))
+    c.halted_bytes-in-Err-TooLong.ensures.bytes

@@ -1,0 +1,88 @@
+-- What the top call promises.
+use Rattle.std.specs.Prelude.{⊤, ◌≡◌, ◌⊎◌, ◌<◌, ◌++◌, ℕ, Bool, true, false, IfSome, MatchOption, List, [], ◌∷◌, Option, Some, None, codes, length, reverse}
+use Rattle.pl_cli.specs.declared.table.OptionName.TheVariants.{Stack, Project}
+use Rattle.pl_cli.specs.Place.{given_value}
+use Rattle.pl_cli.specs.Reading.{bad_place, engine_words, host_words}
+use Rattle.pl_decide.specs.declared.outcome.Outcome.{Outcome}
+use Rattle.pl_decide.specs.declared.outcome.Outcome.TheVariants.{Done, Failed, TooManyResources, BadWords, NotBuilt, StoreFault, StartFault, PipeFault, ChildEnded, BadFrame, OutOfMemory}
+use Rattle.pl_events.specs.Closing.{has_host_end}
+use Rattle.pl_events.specs.declared.event.Event.{Event}
+use Rattle.pl_world.specs.Counts.{Rose}
+use Rattle.pl_world.specs.Told.{Piece}
+use Rattle.pl_model.specs.Run.{Fixed}
+use Rattle.pl_model.specs.Problems.{least_outcome}
+use Rattle.pl_model.specs.Requests.{waiting_of}
+use Rattle.pl_model.specs.Entries.{state_of}
+use Rattle.pl_model.specs.Due.{IsQuiet}
+use Rattle.pl_model.specs.Legal.{IsLegal}
+use Rattle.pl_model.specs.HostLines.{HostLines}
+use Rattle.pl_model.specs.Fulfilment.{Fulfils}
+use Rattle.pl_engine.specs.Spelled.{host_spelling}
+use Rattle.pl_engine.specs.Stored.{IsComplete, IsKeptUp}
+
+-- the status of an outcome
+abbrev pub status_code : Outcome → ℕ
+status_code Done = 0
+status_code (Failed _ _) = 1
+status_code TooManyResources = 1
+status_code (BadWords _) = 2
+status_code NotBuilt = 3
+status_code StoreFault = 5
+status_code StartFault = 5
+status_code (PipeFault _) = 5
+status_code (ChildEnded _) = 6
+status_code (BadFrame _ _) = 6
+status_code OutOfMemory = 7
+
+-- the host's command
+abbrev pub command_words : List (List ℕ) → List ℕ → List ℕ → List (List ℕ)
+command_words host stack project =
+    host ++ codes "--stack" ∷ stack ∷ codes "--project" ∷ project ∷ []
+
+-- the run's data are those of the words
+pub record IsRunOf (words : List (List ℕ)) (run : Fixed) : Type 0 where
+  pub accepted : bad_place words ≡ None
+  pub stack : given_value Stack (engine_words words) ≡ Some run.stack
+  pub project : given_value Project (engine_words words) ≡ Some run.project
+
+-- the outcome of a run: the least problem's, or else want of memory where it was wanted, or else success
+abbrev pub IsFinal : Option Outcome → Bool → Outcome → Type 0
+IsFinal (Some least) wanted outcome = outcome ≡ least
+IsFinal None true outcome = outcome ≡ OutOfMemory
+IsFinal None false outcome = outcome ≡ Done
+
+-- the history of a run: it is legal, the host has ended, and every request is answered unless the
+-- writing half's count rose or memory was wanted
+pub record IsLegalRun (run : Fixed) (history : List Event) (faults : ℕ) (wanted : Bool) : Type 0 where
+  pub legal : IsLegal run host_spelling history
+  pub ended : has_host_end history ≡ true
+  pub answered : (waiting_of run history ≡ []) ⊎ (Rose 0 faults ⊎ (wanted ≡ true))
+
+-- what `Done` means: the host was taken up to its word of success, nothing is due or over the limit, every
+-- event that must be saved has its mark and the last save is of this state, which has the entry of each
+-- goal and no other
+pub record IsDone (run : Fixed) (history : List Event) (marks : List ℕ) (before now : Option (List (List ℕ))) : Type 0 where
+  pub quiet : IsQuiet run history
+  pub complete : IsComplete run host_spelling history marks before now
+  pub fulfils : Fulfils run (state_of run history) history
+
+-- the outcome of a run, and what success means
+pub record IsOutcome (run : Fixed) (history : List Event) (marks : List ℕ) (wanted : Bool) (outcome : Outcome)
+    (before now : Option (List (List ℕ))) : Type 0 where
+  pub least : IsFinal (least_outcome history) wanted outcome
+  pub done : outcome ≡ Done → IsDone run history marks before now
+
+-- an outcome from before the run, each by its cause: `content` is what the store told at the start,
+-- `store` and `spawner` say that these counts rose
+abbrev pub IsRefused : List (List ℕ) → Option (List (List ℕ)) → Type 0 → Type 0 → Outcome → Type 0
+IsRefused words content store spawner Done = ⊥
+IsRefused words content store spawner (Failed _ _) = ⊥
+IsRefused words content store spawner TooManyResources = ⊥
+IsRefused words content store spawner (BadWords place) = bad_place words ≡ Some place
+IsRefused words content store spawner NotBuilt = (bad_place words ≡ None) × IfSome content (λ texts. 0 < length texts)
+IsRefused words content store spawner StoreFault = (bad_place words ≡ None) × store
+IsRefused words content store spawner StartFault = (bad_place words ≡ None) × IfSome content (λ texts. texts ≡ []) × spawner
+IsRefused words content store spawner (PipeFault _) = ⊥
+IsRefused words content store spawner (ChildEnded _) = ⊥
+IsRefused words content store spawner (BadFrame _ _) = ⊥
+IsRefused words content store spawner OutOfMemory = ⊤
