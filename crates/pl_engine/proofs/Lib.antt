@@ -5,3 +5,5 @@ pub mod Finding
 pub mod Answering
 pub mod Accepting
 pub mod Hearing
+pub mod Ending
+pub mod Beginning

@@ -7,6 +7,8 @@ use Rattle.pl_decide.specs.declared.outcome.Outcome.{Outcome}
 use Rattle.pl_decide.specs.declared.outcome.Outcome.TheVariants.{Done, Failed, TooManyResources, BadWords, NotBuilt, StoreFault, StartFault, PipeFault, ChildEnded, BadFrame, OutOfMemory}
 use Rattle.pl_events.specs.Closing.{has_host_end}
 use Rattle.pl_events.specs.declared.event.Event.{Event}
+use Rattle.pl_world.specs.declared.trouble.Trouble.{Trouble}
+use Rattle.pl_world.specs.declared.trouble.Trouble.TheVariants as trouble
 use Rattle.pl_world.specs.Counts.{Rose}
 use Rattle.pl_world.specs.Told.{Piece}
 use Rattle.pl_model.specs.Run.{Fixed}
@@ -72,17 +74,45 @@ pub record IsOutcome (run : Fixed) (history : List Event) (marks : List ℕ) (wa
   pub least : IsFinal (least_outcome history) wanted outcome
   pub done : outcome ≡ Done → IsDone run history marks before now
 
--- an outcome from before the run, each by its cause: `content` is what the store told at the start,
--- `store` and `spawner` say that these counts rose
+-- nothing was marked, and the story is as it was
+pub record IsUntouched (lengths : List ℕ) (before now : Option (List (List ℕ))) : Type 0 where
+  pub marks : lengths ≡ []
+  pub story : now ≡ before
+
+-- an outcome of accepted words from before the run, each by its cause: `content` is what the store told at
+-- the start, `store` and `spawner` say that these counts rose
+abbrev pub IsEarly : Option (List (List ℕ)) → Type 0 → Type 0 → Outcome → Type 0
+IsEarly content store spawner Done = ⊥
+IsEarly content store spawner (Failed _ _) = ⊥
+IsEarly content store spawner TooManyResources = ⊥
+IsEarly content store spawner (BadWords place) = ⊥
+IsEarly content store spawner NotBuilt = IfSome content (λ texts. 0 < length texts)
+IsEarly content store spawner StoreFault = store
+IsEarly content store spawner StartFault = IfSome content (λ texts. texts ≡ []) × spawner
+IsEarly content store spawner (PipeFault _) = ⊥
+IsEarly content store spawner (ChildEnded _) = ⊥
+IsEarly content store spawner (BadFrame _ _) = ⊥
+IsEarly content store spawner OutOfMemory = ⊤
+
+-- an outcome of a store that gave no empty content: it has one, or its count rose, or memory was wanted
+abbrev pub IsUnread : Option (List (List ℕ)) → Type 0 → Outcome → Type 0
+IsUnread content store outcome = IsEarly content store ⊥ outcome
+
+-- an outcome from before the run: the words are refused at their place, or are accepted
 abbrev pub IsRefused : List (List ℕ) → Option (List (List ℕ)) → Type 0 → Type 0 → Outcome → Type 0
+IsRefused words content store spawner (BadWords place) = bad_place words ≡ Some place
 IsRefused words content store spawner Done = ⊥
 IsRefused words content store spawner (Failed _ _) = ⊥
 IsRefused words content store spawner TooManyResources = ⊥
-IsRefused words content store spawner (BadWords place) = bad_place words ≡ Some place
-IsRefused words content store spawner NotBuilt = (bad_place words ≡ None) × IfSome content (λ texts. 0 < length texts)
-IsRefused words content store spawner StoreFault = (bad_place words ≡ None) × store
-IsRefused words content store spawner StartFault = (bad_place words ≡ None) × IfSome content (λ texts. texts ≡ []) × spawner
+IsRefused words content store spawner NotBuilt = (bad_place words ≡ None) × IsEarly content store spawner NotBuilt
+IsRefused words content store spawner StoreFault = (bad_place words ≡ None) × IsEarly content store spawner StoreFault
+IsRefused words content store spawner StartFault = (bad_place words ≡ None) × IsEarly content store spawner StartFault
 IsRefused words content store spawner (PipeFault _) = ⊥
 IsRefused words content store spawner (ChildEnded _) = ⊥
 IsRefused words content store spawner (BadFrame _ _) = ⊥
 IsRefused words content store spawner OutOfMemory = ⊤
+
+-- the outcome of a host that was not started
+abbrev pub start_outcome_of : Trouble → Outcome
+start_outcome_of trouble.Failed = StartFault
+start_outcome_of trouble.OutOfMemory = OutOfMemory

@@ -12,6 +12,7 @@ use pl_decide::{Child, Outcome, Problem};
 use pl_events::{Event, History, HostEnd, Request, Stop, What};
 use pl_state::{Entry, Registration, Snapshot};
 use pl_value::{OutOfMemory, Text};
+use std::alloc::Global;
 
 /// The seat of the thread that reads the host's messages.
 const REGISTRAR: u64 = 0;
@@ -86,6 +87,30 @@ fn is_want(stop: Stop) -> bool
 }
 
 impl Journal {
+    /// A journal without an event; takes no memory.
+    pub fn new(alloc: Global, history: History, state: Snapshot, project: Text) -> Journal
+        requires history { history ≡ [] }
+        requires entries { state.entries ≡ [] }
+        ensures consistent { Consistent (run_of result) result }
+        ensures history { result.history ≡ [] }
+        ensures marks { result.marks.items ≡ [] }
+        ensures state { result.state ≡ state }
+        ensures project { result.project ≡ project }
+        ensures wanted { result.wanted ≡ false }
+    {
+        Journal {
+            history,
+            marks: Vec::new(alloc),
+            state,
+            project,
+            last: 0,
+            halted: false,
+            stopped: false,
+            outcome: None,
+            wanted: false,
+        }
+    }
+
     /// Appends the stop unless one stands; takes no memory.
     pub fn stop(&mut self, stop: Stop)
         requires consistent { Consistent (run_of self.old) self.old }

@@ -1,5 +1,5 @@
 use pl_decide::Outcome;
-use pl_events::History;
+use pl_events::Event;
 use pl_state::Snapshot;
 use pl_world::{Pipe, Spawner};
 
@@ -19,7 +19,8 @@ pub struct World<S: Drop, B: Drop, P: Drop, W: Drop, I: Drop, G: Drop> {
 #[derive(Drop)]
 pub struct RunRecord<Q: Pipe> {
     pub base: Snapshot,
-    pub history: History,
+    /// The events, the oldest first.
+    pub history: Vec<Event>,
     /// The lengths of the history at which a replacement of the checkpoint succeeded.
     pub marks: Vec<u64>,
     /// The host's reading half and its writing half; none where the run ended before the host started.
