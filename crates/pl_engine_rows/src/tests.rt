@@ -46,9 +46,10 @@ struct Script<'a> {
 
 const UP: &[&str] = &["up", "--stack", "dev", "--project", "web", "--", "h"];
 
-fn plain<'a>(messages: &'a [&'a str]) -> Script<'a> {
+/// A world in which nothing fails.
+fn script_of<'a>(words: &'a [&'a str], messages: &'a [&'a str]) -> Script<'a> {
     Script {
-        words: UP,
+        words,
         messages,
         cut: usize::MAX,
         chunk: 0,
@@ -59,6 +60,10 @@ fn plain<'a>(messages: &'a [&'a str]) -> Script<'a> {
         writing_fails: &[],
         spawner_fails: &[],
     }
+}
+
+fn plain<'a>(messages: &'a [&'a str]) -> Script<'a> {
+    script_of(UP, messages)
 }
 
 /// The frames of the messages, up to the cut.
@@ -302,9 +307,7 @@ fn bad_words_places(rt: HostRuntime) -> Result<(), Fail> {
         (&["up", "--stack", "dev", "--", "h"], 3),
     ];
     for (words, want) in cases {
-        let mut script = plain(&[DONE]);
-        script.words = words;
-        let ended = run(&rt, rt.alloc(), &script)?;
+        let ended = run(&rt, rt.alloc(), &script_of(words, &[DONE]))?;
         let place = match ended.outcome {
             Outcome::BadWords { place } => place,
             _ => u64::MAX,
