@@ -1,6 +1,7 @@
 //! An item at a desk, and threads that take turns at it.
 #![tactic(auto)]
 
+mod alone;
 mod crews;
 mod notes;
 mod pair;
@@ -8,6 +9,7 @@ mod pair;
 mod tests;
 mod turns;
 
+pub use alone::one_thread;
 pub use crews::{Work, crew};
 pub use notes::{Note, Notes, Saying};
 pub use pair::look_both;

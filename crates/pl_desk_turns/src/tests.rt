@@ -1,6 +1,6 @@
 ghost use Rattle.std.specs.Prelude.{◌≡◌, []};
 
-use crate::{Notes, Work, crew, look_both, two_threads};
+use crate::{Notes, Work, crew, look_both, one_thread, two_threads};
 use pl_desk::{OutOfMemory, join, new, split};
 use std::alloc::Global;
 use std::test::Fail;
@@ -23,6 +23,16 @@ fn two_thousand_turns(rt: HostRuntime) -> Result<(), Fail> {
     let of_first = notes.iter().filter(|note| note.seat == 0).count();
     assert!(rt; added.notes.title == 7 && added.by_first == 1000 && added.by_second == 1000);
     assert!(rt; notes.len() == 2000 && of_first == 1000);
+    Ok(())
+}
+
+#[test]
+fn two_seats_in_one_thread(rt: HostRuntime) -> Result<(), Fail> {
+    let Ok(notes) = one_thread(&rt, rt.alloc(), no_notes(rt.alloc()), 3) else {
+        panic!(rt; "no memory")
+    };
+    assert!(rt; notes.title == 7 && notes.notes.len() == 3);
+    assert!(rt; notes.notes.iter().all(|note| note.seat == 1));
     Ok(())
 }
 

@@ -1,0 +1,4 @@
+pub mod Kinds
+pub mod Printed
+pub mod Told
+pub mod Turns
