@@ -1,0 +1,7 @@
+pub mod Changed
+pub mod Inside
+pub mod IsValue
+pub mod Keys
+pub mod Marks
+pub mod Secrets
+pub mod Shown
