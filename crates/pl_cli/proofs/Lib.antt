@@ -1,3 +1,4 @@
 pub mod Completeness
 pub mod Lists
 pub mod Places
+pub mod Scopes

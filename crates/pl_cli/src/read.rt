@@ -1,4 +1,5 @@
 ghost use Rattle.std.specs.Prelude.{◌≡◌, ◌<◌, IfErr, IfOk, IfSome, IsSome, OnOk, Some, None, length, map, position, string_bytes};
+ghost use Rattle.pl_urn.specs.Grammar.{IsScope};
 ghost use Rattle.pl_cli.specs.Word.{is_separator};
 ghost use Rattle.pl_cli.specs.Place.{given_value};
 ghost use Rattle.pl_cli.specs.Reading.{bad_place, command_of, engine_words, fault_place, host_words, host_words_fit, is_complete, misplaced_word, options_given};
@@ -10,8 +11,9 @@ use crate::table::{CommandName, HostRule, OptionName, command_named};
 use pl_value::{OutOfMemory, Text, Words};
 use std::alloc::Global;
 
-/// Reads the words of the command line, without the program's own name.
-#[tactic(auto, using(crate::proofs::Completeness::given_stack, crate::proofs::Completeness::given_project))]
+/// Reads the words of the command line, without the program's own name. The stack and the project of what it
+/// answers are names that stand in a URN.
+#[tactic(auto, using(crate::proofs::Completeness::given_stack, crate::proofs::Completeness::given_project, crate::proofs::Scopes::stack_scope, crate::proofs::Scopes::project_scope))]
 pub fn read_words(alloc: Global, words: &[String]) -> Result<Command, WordFault>
     ensures refused { IfErr result (IsRefusedAt (bad_place (map string_bytes words.now))) }
     ensures accepted { OnOk result (bad_place (map string_bytes words.now) ≡ None) }
@@ -20,6 +22,8 @@ pub fn read_words(alloc: Global, words: &[String]) -> Result<Command, WordFault>
         given_value OptionName.Stack (engine_words (map string_bytes words.now)) ≡ Some run.stack)) }
     ensures project { IfOk result (IfUp (λ run.
         given_value OptionName.Project (engine_words (map string_bytes words.now)) ≡ Some run.project)) }
+    ensures stack_scope { IfOk result (IfUp (λ run. IsScope run.stack)) }
+    ensures project_scope { IfOk result (IfUp (λ run. IsScope run.project)) }
     ensures host { IfOk result (IfUp (λ run. run.host ≡ host_words (map string_bytes words.now))) }
 {
     let (engine, host) = split_words(words);
