@@ -1,4 +1,5 @@
 use Rattle.std.specs.Prelude.{⊤, ◌≡◌, ◌^◌, ℕ, ◌<◌, List, [], length, Result, Ok, Err}
+use Rattle.pl_world.specs.declared.frames.TheConstants.{MAX_BODY}
 use Rattle.pl_world.specs.declared.trouble.Trouble.{Trouble}
 use Rattle.pl_world.specs.declared.trouble.Trouble.TheVariants as trouble
 use Rattle.pl_world.specs.declared.frames.FrameIn.{FrameIn}
@@ -47,6 +48,6 @@ TakesFor (Ok body) P = IsBody body × P (frame_of body)
 TakesFor (Err Fault) P = (bytes : List ℕ) × IsPartOfFrame bytes × P bytes
 TakesFor (Err End) P = P []
 TakesFor (Err (CutShort bytes)) P = (0 < length bytes) × IsPartOfFrame bytes × P bytes
-TakesFor (Err (TooLong n)) P = (4194304 < n) × (n < 2 ^ 32) × P (length_bytes n)
+TakesFor (Err (TooLong n)) P = (MAX_BODY < n) × (n < 2 ^ 32) × P (length_bytes n)
 TakesFor (Err Empty) P = P (length_bytes 0)
 TakesFor (Err OutOfMemory) P = (bytes : List ℕ) × IsPartOfFrame bytes × P bytes

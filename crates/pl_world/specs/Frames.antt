@@ -1,9 +1,10 @@
 use Rattle.std.specs.Prelude.{◌≡◌, ◌⊎◌, ℕ, ◌<◌, ◌≤◌, List, ◌++◌, length}
+use Rattle.pl_world.specs.declared.frames.TheConstants.{MAX_BODY}
 use Rattle.std.specs.Int.{w32, to_be_bytes}
 
 -- a body has 1 to 4,194,304 bytes
 abbrev pub IsBody : List ℕ → Type 0
-IsBody body = (1 ≤ length body) × (length body ≤ 4194304)
+IsBody body = (1 ≤ length body) × (length body ≤ MAX_BODY)
 
 -- a length as it stands before a body: four bytes, the highest first
 abbrev pub length_bytes : ℕ → List ℕ
