@@ -1,9 +1,10 @@
 ghost use Rattle.std.specs.Str.{bytes_eq};
 ghost use Rattle.std.specs.List.{list_any};
+ghost use Rattle.std.specs.Option.{option_copied};
 ghost use Rattle.std.specs.Prelude.{find, ◌≡◌, [], ◌∷◌, ◌++◌, IfOk, length, OnErr, OnOk, option_map, slice_get, take};
 
 use crate::entry::Entry;
-use pl_value::{OutOfMemory, Text};
+use pl_value::OutOfMemory;
 use std::alloc::Global;
 use std::marker::Model;
 
@@ -15,21 +16,46 @@ pub struct Entries {
 
 impl Model for Entries {
     ghost use Rattle.std.specs.Prelude.{List};
+    ghost use Rattle.std.specs.Coded.{codes, coded_list};
     ghost use Rattle.pl_state.specs.declared.entry.Entry.{Entry};
+    ghost use Rattle.pl_state.specs.contracts.entry.Entry as row;
 
     ghost Value = { List Entry };
+
+    ghost coded = { coded_list (Prim.hlevel (codes, row.the_row.coded)) };
 
     ghost view = { λ a. a.rows.items };
 }
 
 impl Entries {
-    /// No entry; takes no memory.
+    /// Nothing in the list; takes no memory.
     pub fn new(alloc: Global) -> Entries
         ensures { result ≡ [] }
     {
         Entries {
             rows: Vec::new(alloc),
         }
+    }
+
+    /// Over the given vector; takes no memory.
+    pub fn from_vec(rows: Vec<Entry>) -> Entries
+        ensures { result ≡ rows.items }
+    {
+        Entries { rows }
+    }
+
+    /// Gives the vector back; takes no memory.
+    pub fn into_vec(self) -> Vec<Entry>
+        ensures { result.items ≡ self }
+    {
+        let Entries { rows } = self;
+        rows
+    }
+
+    pub fn as_slice(&self) -> &[Entry]
+        ensures { result.now ≡ self.now }
+    {
+        self.rows.as_slice()
     }
 
     pub fn len(&self) -> usize
@@ -45,13 +71,23 @@ impl Entries {
         self.rows.get(place)
     }
 
-    /// Adds an entry at the end; after `OutOfMemory` nothing was added.
+    /// Adds a entry at the end; after `OutOfMemory` nothing was added.
     pub fn push(&mut self, entry: Entry) -> Result<(), OutOfMemory>
         ensures added { OnOk result (self.new ≡ self.old ++ entry ∷ []) }
         ensures unchanged { OnErr result (self.new ≡ self.old) }
     {
         self.rows.push(entry)?;
         Ok(())
+    }
+
+    pub fn copy(&self, alloc: Global) -> Result<Entries, OutOfMemory>
+        ensures { IfOk result (λ made. made ≡ self.now) }
+    {
+        let mut rows = Vec::new(alloc);
+        for entry in &self.rows {
+            rows.push(entry.copy(alloc)?)?;
+        }
+        Ok(Entries { rows })
     }
 }
 
@@ -76,12 +112,4 @@ impl Entries {
     {
         self.rows.truncate(len);
     }
-}
-
-/// The state of a stack: what the checkpoint holds.
-#[derive(Debug, Drop)]
-pub struct Snapshot {
-    /// The stack's name; empty where none is known.
-    pub stack: Text,
-    pub entries: Entries,
 }

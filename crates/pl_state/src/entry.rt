@@ -1,7 +1,13 @@
 ghost use Rattle.std.specs.Prelude.{◌≡◌, IfOk};
+ghost use Rattle.pl_state.specs.Component.{component_entry};
 
+use crate::copies::{copy_reference, copy_text, copy_urn};
+use crate::keyed::KeyedUrns;
+use crate::reference::ProviderRef;
+use crate::urns::Urns;
 use pl_urn::Urn;
-use pl_value::{OutOfMemory, Text};
+use pl_value::{Fields, OutOfMemory, Text, Texts};
+use std::alloc::Global;
 
 /// What the checkpoint keeps of one resource.
 #[derive(Debug, Drop)]
@@ -11,33 +17,87 @@ pub struct Entry {
     pub custom: bool,
     /// The type, as `my:index:Site`.
     pub kind: Text,
+    /// The name that the provider gave the real thing.
+    pub id: Option<Text>,
+    pub inputs: Fields,
+    pub outputs: Fields,
     pub parent: Option<Urn>,
+    pub provider: Option<ProviderRef>,
+    pub dependencies: Urns,
+    /// What the value of a property depends on, by the property.
+    pub property_dependencies: KeyedUrns,
+    /// Whether the real thing was replaced and is still to be deleted; `delete` in the checkpoint.
+    pub doomed: bool,
+    pub protect: bool,
+    /// Whether the real thing is only read, and never changed.
+    pub external: bool,
+    pub init_errors: Texts,
+    /// The outputs that are kept as secrets beside those that the provider marks.
+    pub additional_secret_outputs: Texts,
+    pub aliases: Urns,
+    pub import_id: Option<Text>,
+    pub retain_on_delete: bool,
+    /// The compact text of a JSON object with the fields that are kept unread.
+    pub rest: Text,
 }
 
 impl Entry {
-    pub fn copy(&self) -> Result<Entry, OutOfMemory>
-        ensures { IfOk result (λ made. made ≡ self.now) }
+    /// The entry of a component that has nothing but a type and, maybe, a parent.
+    pub fn component(
+        alloc: Global,
+        urn: Urn,
+        kind: Text,
+        parent: Option<Urn>,
+    ) -> Result<Entry, OutOfMemory>
+        ensures { IfOk result (λ made. made ≡ component_entry urn kind parent) }
     {
-        let urn = self.urn.copy()?;
-        let kind = self.kind.copy()?;
-        let parent = copy_parent(&self.parent)?;
+        let rest = Text::from_str(alloc, "{}")?;
         Ok(Entry {
             urn,
-            custom: self.custom,
+            custom: false,
             kind,
+            id: None,
+            inputs: Fields::new(alloc),
+            outputs: Fields::new(alloc),
             parent,
+            provider: None,
+            dependencies: Urns::new(alloc),
+            property_dependencies: KeyedUrns::new(alloc),
+            doomed: false,
+            protect: false,
+            external: false,
+            init_errors: Texts::new(alloc),
+            additional_secret_outputs: Texts::new(alloc),
+            aliases: Urns::new(alloc),
+            import_id: None,
+            retain_on_delete: false,
+            rest,
         })
     }
-}
 
-fn copy_parent(parent: &Option<Urn>) -> Result<Option<Urn>, OutOfMemory>
-    ensures { IfOk result (λ made. made ≡ parent.now) }
-{
-    match parent {
-        None => Ok(None),
-        Some(urn) => {
-            let copied = urn.copy()?;
-            Ok(Some(copied))
-        }
+    pub fn copy(&self, alloc: Global) -> Result<Entry, OutOfMemory>
+        ensures { IfOk result (λ made. made ≡ self.now) }
+    {
+        Ok(Entry {
+            urn: self.urn.copy()?,
+            custom: self.custom,
+            kind: self.kind.copy()?,
+            id: copy_text(&self.id)?,
+            inputs: self.inputs.copy(alloc)?,
+            outputs: self.outputs.copy(alloc)?,
+            parent: copy_urn(&self.parent)?,
+            provider: copy_reference(&self.provider)?,
+            dependencies: self.dependencies.copy()?,
+            property_dependencies: self.property_dependencies.copy()?,
+            doomed: self.doomed,
+            protect: self.protect,
+            external: self.external,
+            init_errors: self.init_errors.copy()?,
+            additional_secret_outputs: self.additional_secret_outputs.copy()?,
+            aliases: self.aliases.copy()?,
+            import_id: copy_text(&self.import_id)?,
+            retain_on_delete: self.retain_on_delete,
+            rest: self.rest.copy()?,
+        })
     }
 }

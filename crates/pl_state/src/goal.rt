@@ -1,20 +1,292 @@
-use pl_urn::Urn;
-use pl_value::Text;
+ghost use Rattle.std.specs.Prelude.{◌≡◌, [], ◌∷◌, ◌++◌, IfOk, length, OnErr, OnOk, option_map, slice_get};
+ghost use Rattle.pl_state.specs.Component.{has_no_flags, has_no_lists, has_no_names, is_plain, plain_registration};
 
-/// What the host asks for by one `register`.
+use crate::copies::{copy_text, copy_urn};
+use crate::keyed::{KeyedTexts, KeyedUrns};
+use crate::urns::Urns;
+use pl_urn::Urn;
+use pl_value::{Fields, OutOfMemory, Text, Texts};
+use std::alloc::Global;
+use std::marker::Model;
+
+/// What the host asks for by one `register` or one `read`.
 #[derive(Debug, Drop)]
 pub struct Registration {
     /// The type, as `my:index:Site`.
     pub kind: Text,
     pub name: Text,
+    pub custom: bool,
+    pub inputs: Fields,
     /// The parent's URN as it was sent.
     pub parent: Option<Text>,
+    /// The provider reference as it was sent.
+    pub provider: Option<Text>,
+    /// URNs as they were sent.
+    pub dependencies: Texts,
+    /// URNs as they were sent, by property.
+    pub property_dependencies: KeyedTexts,
+    pub protect: bool,
+    /// Earlier URNs as they were sent.
+    pub aliases: Texts,
+    /// Property paths.
+    pub ignore_changes: Texts,
+    pub delete_before_replace: Option<bool>,
+    pub retain_on_delete: bool,
+    pub additional_secret_outputs: Texts,
+    /// The id of a thing that is there already and is to be taken over.
+    pub import_id: Option<Text>,
+    /// The version of the provider's package.
+    pub version: Option<Text>,
+    /// The id of a thing that is only read.
+    pub read_id: Option<Text>,
 }
 
-/// An accepted registration.
+impl Registration {
+    /// A component that has nothing but a type, a name and, maybe, a parent; takes no memory.
+    pub fn component(alloc: Global, kind: Text, name: Text, parent: Option<Text>) -> Registration
+        ensures { result ≡ plain_registration kind name parent }
+    {
+        Registration {
+            kind,
+            name,
+            custom: false,
+            inputs: Fields::new(alloc),
+            parent,
+            provider: None,
+            dependencies: Texts::new(alloc),
+            property_dependencies: KeyedTexts::new(alloc),
+            protect: false,
+            aliases: Texts::new(alloc),
+            ignore_changes: Texts::new(alloc),
+            delete_before_replace: None,
+            retain_on_delete: false,
+            additional_secret_outputs: Texts::new(alloc),
+            import_id: None,
+            version: None,
+            read_id: None,
+        }
+    }
+
+    /// Whether it is a component's, without an option.
+    pub fn is_plain(&self) -> bool
+        ensures { result ≡ is_plain self.now }
+    {
+        self.has_no_flags() && self.has_no_names() && self.has_no_lists()
+    }
+
+    fn has_no_flags(&self) -> bool
+        ensures { result ≡ has_no_flags self.now }
+    {
+        !self.custom
+            && !self.protect
+            && !self.retain_on_delete
+            && self.delete_before_replace.is_none()
+    }
+
+    fn has_no_names(&self) -> bool
+        ensures { result ≡ has_no_names self.now }
+    {
+        self.provider.is_none()
+            && self.import_id.is_none()
+            && self.version.is_none()
+            && self.read_id.is_none()
+    }
+
+    fn has_no_lists(&self) -> bool
+        ensures { result ≡ has_no_lists self.now }
+    {
+        self.inputs.len() == 0
+            && self.dependencies.len() == 0
+            && self.property_dependencies.len() == 0
+            && self.aliases.len() == 0
+            && self.ignore_changes.len() == 0
+            && self.additional_secret_outputs.len() == 0
+    }
+
+    pub fn copy(&self, alloc: Global) -> Result<Registration, OutOfMemory>
+        ensures { IfOk result (λ made. made ≡ self.now) }
+    {
+        Ok(Registration {
+            kind: self.kind.copy()?,
+            name: self.name.copy()?,
+            custom: self.custom,
+            inputs: self.inputs.copy(alloc)?,
+            parent: copy_text(&self.parent)?,
+            provider: copy_text(&self.provider)?,
+            dependencies: self.dependencies.copy()?,
+            property_dependencies: self.property_dependencies.copy()?,
+            protect: self.protect,
+            aliases: self.aliases.copy()?,
+            ignore_changes: self.ignore_changes.copy()?,
+            delete_before_replace: self.delete_before_replace,
+            retain_on_delete: self.retain_on_delete,
+            additional_secret_outputs: self.additional_secret_outputs.copy()?,
+            import_id: copy_text(&self.import_id)?,
+            version: copy_text(&self.version)?,
+            read_id: copy_text(&self.read_id)?,
+        })
+    }
+}
+
+/// An accepted registration, or the default provider that one needs.
 #[derive(Debug, Drop)]
 pub struct Goal {
     pub urn: Urn,
+    pub custom: bool,
+    /// The type, as `my:index:Site`.
     pub kind: Text,
+    pub inputs: Fields,
     pub parent: Option<Urn>,
+    /// The number of the provider's goal.
+    pub provider: Option<u64>,
+    pub dependencies: Urns,
+    pub property_dependencies: KeyedUrns,
+    pub protect: bool,
+    pub aliases: Urns,
+    /// Property paths, each of which is one.
+    pub ignore_changes: Texts,
+    pub delete_before_replace: Option<bool>,
+    pub retain_on_delete: bool,
+    pub additional_secret_outputs: Texts,
+    pub import_id: Option<Text>,
+    pub version: Option<Text>,
+    pub read_id: Option<Text>,
+}
+
+impl Goal {
+    pub fn copy(&self, alloc: Global) -> Result<Goal, OutOfMemory>
+        ensures { IfOk result (λ made. made ≡ self.now) }
+    {
+        Ok(Goal {
+            urn: self.urn.copy()?,
+            custom: self.custom,
+            kind: self.kind.copy()?,
+            inputs: self.inputs.copy(alloc)?,
+            parent: copy_urn(&self.parent)?,
+            provider: self.provider,
+            dependencies: self.dependencies.copy()?,
+            property_dependencies: self.property_dependencies.copy()?,
+            protect: self.protect,
+            aliases: self.aliases.copy()?,
+            ignore_changes: self.ignore_changes.copy()?,
+            delete_before_replace: self.delete_before_replace,
+            retain_on_delete: self.retain_on_delete,
+            additional_secret_outputs: self.additional_secret_outputs.copy()?,
+            import_id: copy_text(&self.import_id)?,
+            version: copy_text(&self.version)?,
+            read_id: copy_text(&self.read_id)?,
+        })
+    }
+}
+
+/// Goals in the order of their registration, seen as their list.
+#[derive(Debug, Drop)]
+pub struct Goals {
+    goals: Vec<Goal>,
+}
+
+impl Model for Goals {
+    ghost use Rattle.std.specs.Prelude.{List};
+    ghost use Rattle.std.specs.Coded.{codes, coded_list};
+    ghost use Rattle.pl_state.specs.declared.goal.Goal.{Goal};
+    ghost use Rattle.pl_state.specs.contracts.goal.Goal as row;
+
+    ghost Value = { List Goal };
+
+    ghost coded = { coded_list (Prim.hlevel (codes, row.the_row.coded)) };
+
+    ghost view = { λ a. a.goals.items };
+}
+
+impl Goals {
+    /// Nothing in the list; takes no memory.
+    pub fn new(alloc: Global) -> Goals
+        ensures { result ≡ [] }
+    {
+        Goals {
+            goals: Vec::new(alloc),
+        }
+    }
+
+    /// Over the given vector; takes no memory.
+    pub fn from_vec(goals: Vec<Goal>) -> Goals
+        ensures { result ≡ goals.items }
+    {
+        Goals { goals }
+    }
+
+    /// Gives the vector back; takes no memory.
+    pub fn into_vec(self) -> Vec<Goal>
+        ensures { result.items ≡ self }
+    {
+        let Goals { goals } = self;
+        goals
+    }
+
+    pub fn as_slice(&self) -> &[Goal]
+        ensures { result.now ≡ self.now }
+    {
+        self.goals.as_slice()
+    }
+
+    pub fn len(&self) -> usize
+        ensures { result ≡ length self.now }
+    {
+        self.goals.len()
+    }
+
+    /// The goal at this place, from 0.
+    pub fn get(&self, place: usize) -> Option<&Goal>
+        ensures { option_map (λ goal. goal.now) result ≡ slice_get self.now place }
+    {
+        self.goals.get(place)
+    }
+
+    /// Adds a goal at the end; after `OutOfMemory` nothing was added.
+    pub fn push(&mut self, goal: Goal) -> Result<(), OutOfMemory>
+        ensures added { OnOk result (self.new ≡ self.old ++ goal ∷ []) }
+        ensures unchanged { OnErr result (self.new ≡ self.old) }
+    {
+        self.goals.push(goal)?;
+        Ok(())
+    }
+
+    pub fn copy(&self, alloc: Global) -> Result<Goals, OutOfMemory>
+        ensures { IfOk result (λ made. made ≡ self.now) }
+    {
+        let mut goals = Vec::new(alloc);
+        for goal in &self.goals {
+            goals.push(goal.copy(alloc)?)?;
+        }
+        Ok(Goals { goals })
+    }
+}
+
+/// What a provider says of a difference between old and new inputs.
+#[derive(Clone, Copy, Debug, PartialEq, Eq)]
+pub enum Changes {
+    NoChange,
+    SomeChange,
+    NotKnown,
+}
+
+/// A provider's reply to the question what differs.
+#[derive(Debug, Drop)]
+pub struct Diffed {
+    pub changes: Changes,
+    /// The properties whose change asks for a replacement.
+    pub replaces: Texts,
+    pub delete_before_replace: bool,
+}
+
+impl Diffed {
+    pub fn copy(&self) -> Result<Diffed, OutOfMemory>
+        ensures { IfOk result (λ made. made ≡ self.now) }
+    {
+        Ok(Diffed {
+            changes: self.changes,
+            replaces: self.replaces.copy()?,
+            delete_before_replace: self.delete_before_replace,
+        })
+    }
 }

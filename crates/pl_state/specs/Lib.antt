@@ -1,0 +1,4 @@
+pub mod Component
+pub mod Reference
+pub mod Seen
+pub mod Sound
