@@ -1,6 +1,12 @@
-//! What a run comes to: its problems and its outcome.
+//! What is decided of a goal, and what a run comes to: decisions, limits, problems and the outcome.
 #![tactic(auto)]
 
+mod decision;
+mod limits;
 mod outcome;
+mod problem;
 
-pub use outcome::{Child, Outcome, Problem};
+pub use decision::{Decision, ProviderChange};
+pub use limits::{Limits, PlanLines};
+pub use outcome::Outcome;
+pub use problem::{Child, Problem};

@@ -1,26 +1,6 @@
+use crate::problem::{Child, Problem};
+use pl_state::BadCheckpoint;
 use pl_value::Bytes;
-
-/// A child process of a run.
-#[derive(Clone, Copy, Debug)]
-pub enum Child {
-    Host,
-}
-
-/// What went wrong in a run, as its history tells it.
-#[derive(Debug, Drop)]
-pub enum Problem {
-    /// An answer's frame would have been longer than a frame may be.
-    MessageTooLong,
-    StoreFault,
-    PipeFault(Child),
-    /// The child's output ended before its last word.
-    ChildEnded(Child),
-    /// What the child sent is no message that may stand there; for a bad length `bytes` are its four
-    /// bytes.
-    BadFrame { child: Child, bytes: Bytes },
-    TooManyResources,
-    NoMemory,
-}
 
 /// How a run ended.
 #[derive(Debug, Drop)]
@@ -33,9 +13,17 @@ pub enum Outcome {
     BadWords { place: u64 },
     /// The store has a content, which this version does not read yet.
     NotBuilt,
+    /// The store's content is no checkpoint.
+    BadCheckpoint(BadCheckpoint),
+    /// The state has so many pending operations, and the command takes none.
+    PendingOperations(u64),
     StoreFault,
+    /// The file beside the store, as that of a plan, could not be read or written.
+    SideFault,
     StartFault,
     PipeFault(Child),
+    /// What was to be printed could not be written.
+    SinkFault,
     ChildEnded(Child),
     BadFrame { child: Child, bytes: Bytes },
     OutOfMemory,

@@ -18,10 +18,14 @@ pub struct History {
 
 impl Model for History {
     ghost use Rattle.std.specs.Prelude.{List, ◌+◌, ◌≤◌, reverse, length, vec_capacity};
+    ghost use Rattle.std.specs.Coded.{codes, coded_list};
     ghost use Rattle.pl_events.specs.declared.event.Event.{Event};
+    ghost use Rattle.pl_events.specs.contracts.event.Event as row;
     ghost use Rattle.pl_events.specs.Closing.{closings_left};
 
     ghost Value = { List Event };
+
+    ghost coded = { coded_list (Prim.hlevel (codes, row.the_row.coded)) };
 
     ghost view = { λ a. reverse a.events.items };
 

@@ -3,6 +3,10 @@
 
 mod event;
 mod history;
+mod operation;
+mod reply;
 
 pub use event::{Answer, Event, HostEnd, Request, Stop, What};
 pub use history::History;
+pub use operation::{Ask, Call, LaneView, Op, Source, Subject};
+pub use reply::{Exchanged, Loss, Reasons, Reply};
