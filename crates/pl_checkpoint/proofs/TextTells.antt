@@ -1,17 +1,20 @@
 -- The text of a state tells the state: it reads as the state's data, and the data has every field.
 use Rattle.std.proofs.Common.{◌≡◌, ◌≢◌, ℕ, ◌≤◌, max, Bool, List, [], ◌∷◌, map, codes, Option, Some, None, refl, sym, ap, ap₂, ◌∙◌, arith}
 use Rattle.std.proofs.Math.Nat.{max-le}
+use Rattle.std.specs.List.{AllByRecursion}
+use Rattle.std.proofs.lemmas.List.Elements.{recursion_from_All}
 use Rattle.json.specs.Json as json
 use Rattle.json.specs.Json.{document}
 use Rattle.json.specs.Tree.{depth, items_depth, members_depth, HasNumbers, ItemsHaveNumbers, MembersHaveNumbers}
 use Rattle.json.proofs.Printed.Decimals.{IsNumber-decimal}
 use Rattle.json.proofs.Printed.Trees.{document-print}
 use Rattle.pl_state.specs.declared.entry.Entry.{Entry}
-use Rattle.pl_state.specs.declared.entries.Snapshot.{Snapshot}
+use Rattle.pl_state.specs.declared.snapshot.Snapshot.{Snapshot}
 use Rattle.serde_json.specs.Data.{Data, string, Members, no_members, member}
 use Rattle.serde_json.specs.View.{items_of}
 use Rattle.serde_json.specs.Written.{outline, items_outline, members_outline}
-use Rattle.pl_checkpoint.specs.Spelled.{text_if_some, entry_data, entries_data, deployment_data, stack_data, checkpoint_data, checkpoint_text}
+use Rattle.pl_state.specs.Component.{bare_entry, bare_state}
+use Rattle.pl_checkpoint.specs.Spelled.{IsBare, text_if_some, entry_data, entries_data, deployment_data, stack_data, checkpoint_data, checkpoint_text}
 use Rattle.pl_checkpoint.specs.Laws.{TextTellsState}
 use Rattle.pl_checkpoint.proofs.EntryTokens.{print-checkpoint_data}
 
@@ -91,12 +94,12 @@ same_text_if_some name (Some a) (Some b) next d e ms ns apart same = (cc, cc)
 same_text_if_some name None (Some b) next d e ms ns apart same = let equal : name ≡ next = cc in absurd (apart equal)
 same_text_if_some name (Some a) None next d e ms ns apart same = let equal : name ≡ next = cc in absurd (apart equal)
 
-abbrev entry_with : List ℕ → Bool → List ℕ → Option (List ℕ) → Entry
-entry_with urn custom kind parent = record { urn = urn; custom = custom; kind = kind; parent = parent }
+abbrev IsBareEntry : Entry → Type 0
+IsBareEntry entry = entry ≡ bare_entry entry.urn entry.custom entry.kind entry.parent
 
-same_entry : (one two : Entry) → outline (entry_data one) ≡ outline (entry_data two) → one ≡ two
+same_entry : (one two : Entry) → IsBareEntry one → IsBareEntry two → outline (entry_data one) ≡ outline (entry_data two) → one ≡ two
 unfolding entry_data
-same_entry one two same =
+same_entry one two bare_one bare_two same =
     let after : members_outline (text_if_some (codes "parent") one.parent (member (codes "type") (string one.kind) (member (codes "urn") (string one.urn) no_members)))
     ≡ members_outline (text_if_some (codes "parent") two.parent (member (codes "type") (string two.kind) (member (codes "urn") (string two.urn) no_members))) = cc in
     let rest = same_text_if_some _ one.parent two.parent _ _ _ _ _ (λ e. cc) after in
@@ -104,32 +107,29 @@ same_entry one two same =
     let custom : one.custom ≡ two.custom = cc in
     let kind : one.kind ≡ two.kind = cc in
     let parent : one.parent ≡ two.parent = rest.0 in
-    let all : entry_with one.urn one.custom one.kind one.parent ≡ entry_with two.urn two.custom two.kind two.parent = cc in
-    all
+    let all : bare_entry one.urn one.custom one.kind one.parent ≡ bare_entry two.urn two.custom two.kind two.parent = cc in
+    bare_one ∙ all ∙ sym bare_two
 
-same_entries : (some others : List Entry) → listed some ≡ listed others → some ≡ others
-same_entries [] [] same = refl
-same_entries [] (two ∷ others) same = cc
-same_entries (one ∷ some) [] same = cc
-same_entries (one ∷ some) (two ∷ others) same = ap₂ (λ e es. e ∷ es) (same_entry one two cc) (same_entries some others cc)
-
-abbrev snapshot_with : List ℕ → List Entry → Snapshot
-snapshot_with stack entries = record { stack = stack; entries = entries }
+same_entries : (some others : List Entry) → AllByRecursion IsBareEntry some → AllByRecursion IsBareEntry others → listed some ≡ listed others → some ≡ others
+same_entries [] [] b c same = refl
+same_entries [] (two ∷ others) b c same = cc
+same_entries (one ∷ some) [] b c same = cc
+same_entries (one ∷ some) (two ∷ others) b c same = ap₂ (λ e es. e ∷ es) (same_entry one two b.0 c.0 cc) (same_entries some others b.1 c.1 cc)
 
 same_listed : (some others : List Entry) → outline (entries_data some) ≡ outline (entries_data others) → listed some ≡ listed others
 unfolding entries_data
 same_listed some others same = cc
 
-same_state : (state other : Snapshot) → outline (checkpoint_data state) ≡ outline (checkpoint_data other) → state ≡ other
+same_state : (state other : Snapshot) → IsBare state → IsBare other → outline (checkpoint_data state) ≡ outline (checkpoint_data other) → state ≡ other
 unfolding checkpoint_data stack_data deployment_data
-same_state state other same =
+same_state state other bare_state' bare_other same =
     let stack : state.stack ≡ other.stack = cc in
     let data_of_entries : outline (entries_data state.entries) ≡ outline (entries_data other.entries) = cc in
-    let entries = same_entries state.entries other.entries (same_listed state.entries other.entries data_of_entries) in
-    ap₂ snapshot_with stack entries
+    let entries = same_entries state.entries other.entries (recursion_from_All _ state.entries bare_state'.entries) (recursion_from_All _ other.entries bare_other.entries) (same_listed state.entries other.entries data_of_entries) in
+    bare_state'.others ∙ ap₂ bare_state stack entries ∙ sym bare_other.others
 
 pub text_tells_state : TextTellsState
-text_tells_state state other same =
+text_tells_state state other bare bare' same =
     let read : Some (outline (checkpoint_data state)) ≡ Some (outline (checkpoint_data other)) =
     sym (read-checkpoint_text state) ∙ ap document same ∙ read-checkpoint_text other in
-    same_state state other cc
+    same_state state other bare bare' cc

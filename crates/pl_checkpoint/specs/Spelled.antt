@@ -1,11 +1,18 @@
 -- How a state is spelled: the checkpoint's data of version 3 and its text. An object's members stand in rising order of
 -- their keys.
-use Rattle.std.specs.Prelude.{List, ℕ, map, Option, Some, None, codes}
+use Rattle.std.specs.Prelude.{◌≡◌, All, List, ℕ, map, Option, Some, None, codes}
+use Rattle.pl_state.specs.Component.{bare_entry, bare_state}
 use Rattle.pl_state.specs.declared.entry.Entry.{Entry}
-use Rattle.pl_state.specs.declared.entries.Snapshot.{Snapshot}
+use Rattle.pl_state.specs.declared.snapshot.Snapshot.{Snapshot}
 use Rattle.serde_json.specs.Data.{Data, boolean, number, unsigned, string, array, object, no_items, Members, no_members, member}
 use Rattle.serde_json.specs.View.{items_of}
 use Rattle.serde_json.specs.Written.{compact_text}
+
+-- a state that is spelled as yet: its entries have nothing but a type, a parent and whether they are custom,
+-- nothing is pending, and the manifest is empty
+pub record IsBare (state : Snapshot) : Type 0 where
+  pub entries : All (λ entry. entry ≡ bare_entry entry.urn entry.custom entry.kind entry.parent) state.entries
+  pub others : state ≡ bare_state state.stack state.entries
 
 -- a text's member, which is left out where there is no text
 abbrev pub text_if_some : List ℕ → Option (List ℕ) → Members → Members

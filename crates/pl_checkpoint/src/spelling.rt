@@ -1,7 +1,7 @@
 ghost use Rattle.std.specs.Prelude.{◌≡◌, [], ◌∷◌, decimal, IfOk, OnOk, Some};
 ghost use Rattle.json.specs.Token.{begin_array, begin_object, boolean, end_array, end_object, key, number};
 ghost use Rattle.pl_checkpoint.specs.Appends.{Appends, AppendsData, text_tokens};
-ghost use Rattle.pl_checkpoint.specs.Spelled.{checkpoint_data, checkpoint_text, deployment_data, entries_data, entry_data, stack_data};
+ghost use Rattle.pl_checkpoint.specs.Spelled.{IsBare, checkpoint_data, checkpoint_text, deployment_data, entries_data, entry_data, stack_data};
 
 use json::Writer;
 use pl_state::{Entries, Entry, Snapshot};
@@ -12,8 +12,9 @@ use std::alloc::{AllocError, Global};
 /// The version of the checkpoint's format.
 const VERSION: u64 = 3;
 
-/// The bytes of the checkpoint.
+/// The bytes of the checkpoint. Inputs, outputs and options are not spelled yet, so the state has none.
 pub fn write(alloc: Global, state: &Snapshot) -> Result<Bytes, OutOfMemory>
+    requires { IsBare state.now }
     ensures { IfOk result (λ bytes. bytes ≡ checkpoint_text state.now) }
 {
     let mut out = Writer::new(Vec::with_capacity(alloc, 256)?);

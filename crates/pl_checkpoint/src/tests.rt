@@ -1,3 +1,6 @@
+ghost use Rattle.std.specs.Prelude.{◌≡◌, All, IfOk};
+ghost use Rattle.pl_state.specs.Component.{bare_entry};
+
 use crate::write;
 use pl_state::{Entries, Entry, Snapshot};
 use pl_value::Text;
@@ -8,7 +11,9 @@ const STACK: &str = "urn:pulumi:dev::web::pulumi:pulumi:Stack::web-dev";
 
 const SITE: &str = "urn:pulumi:dev::web::my:index:Site::s";
 
-fn component(alloc: Global, urn: &str, kind: &str, parent: Option<&str>) -> Result<Entry, Fail> {
+fn component(alloc: Global, urn: &str, kind: &str, parent: Option<&str>) -> Result<Entry, Fail>
+    ensures { IfOk result (λ entry. entry ≡ bare_entry entry.urn entry.custom entry.kind entry.parent) }
+{
     let parent = match parent {
         None => None,
         Some(text) => {
@@ -16,19 +21,17 @@ fn component(alloc: Global, urn: &str, kind: &str, parent: Option<&str>) -> Resu
             Some(above)
         }
     };
-    Ok(Entry {
-        urn: pl_urn::parse(alloc, urn)?,
-        custom: false,
-        kind: Text::from_str(alloc, kind)?,
-        parent,
-    })
+    let urn = pl_urn::parse(alloc, urn)?;
+    let kind = Text::from_str(alloc, kind)?;
+    let made = Entry::component(alloc, urn, kind, parent)?;
+    Ok(made)
 }
 
-fn is_written(alloc: Global, stack: &str, entries: Entries, text: &str) -> Result<bool, Fail> {
-    let state = Snapshot {
-        stack: Text::from_str(alloc, stack)?,
-        entries,
-    };
+fn is_written(alloc: Global, stack: &str, entries: Entries, text: &str) -> Result<bool, Fail>
+    requires { All (λ entry. entry ≡ bare_entry entry.urn entry.custom entry.kind entry.parent) entries }
+{
+    let mut state = Snapshot::new(alloc, Text::from_str(alloc, stack)?)?;
+    state.entries = entries;
     let bytes = write(alloc, &state)?;
     Ok(bytes.as_slice() == text.as_bytes())
 }

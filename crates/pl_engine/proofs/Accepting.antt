@@ -12,6 +12,7 @@ use Rattle.pl_state.specs.declared.entry.Entry.{Entry}
 use Rattle.pl_events.specs.Closing.{has_host_end, has_stop}
 use Rattle.pl_events.specs.declared.event.Event.{Event}
 use Rattle.pl_events.specs.declared.event.Stop.{Stop}
+use Rattle.pl_state.specs.Component.{is_plain}
 use Rattle.pl_model.specs.Run.{Fixed, most_resources}
 use Rattle.pl_model.specs.Problems.{has_problem}
 use Rattle.pl_model.specs.Requests.{Waiting, goal_at, goal_for, goals_of, has_goal, has_parent, is_acceptable, last_number, may_be_next, waiting_of}
@@ -322,7 +323,7 @@ pub parent_stands-placeable : (run : Fixed) (told : Registration) (journal : Jou
     → is_placeable run journal.state.entries told ≡ true → parent_stands (new_entries run journal.history) told.parent ≡ true
 parent_stands-placeable run told journal consistent placeable =
     subst (λ (es : List Entry). parent_stands es told.parent ≡ true) consistent.entries
-    (parent_of_and (is_none (child_fault told.kind told.name)) (parent_stands journal.state.entries told.parent)
+    (parent_of_and (is_plain told && is_none (child_fault told.kind told.name)) (parent_stands journal.state.entries told.parent)
     (not (has_entry journal.state.entries (goal_for run told).urn)) placeable)
 
 -- what work adds needs no save but for its keeps, and posts no answer but by its posts

@@ -13,7 +13,7 @@ use Rattle.pl_cli.specs.declared.command.Command.{Command}
 use Rattle.pl_cli.specs.declared.command.Command.TheVariants.{Up}
 use Rattle.pl_cli.specs.Command.{IfUp}
 use Rattle.pl_decide.specs.declared.outcome.Outcome.{Outcome}
-use Rattle.pl_decide.specs.declared.outcome.Outcome.TheVariants.{Done, Failed, TooManyResources, BadWords, NotBuilt, StoreFault, StartFault, PipeFault, ChildEnded, BadFrame, OutOfMemory}
+use Rattle.pl_decide.specs.declared.outcome.Outcome.TheVariants.{Done, Failed, TooManyResources, BadWords, NotBuilt, BadCheckpoint, PendingOperations, StoreFault, SideFault, StartFault, PipeFault, SinkFault, ChildEnded, BadFrame, OutOfMemory}
 use Rattle.pl_engine.specs.Headline.{IsEarly, IsRunOf, IsUnread, IsUntouched, command_words}
 use Rattle.pl_engine.proofs.Saving.{AllMarked-caused}
 use Rattle.pl_engine.proofs.Storing.{Rose-earlier}
@@ -94,6 +94,10 @@ early-unread content store spawner (Failed _ _) h = h
 early-unread content store spawner TooManyResources h = h
 early-unread content store spawner (BadWords _) h = h
 early-unread content store spawner NotBuilt h = h
+early-unread content store spawner (BadCheckpoint _) h = h
+early-unread content store spawner (PendingOperations _) h = h
+early-unread content store spawner SideFault h = h
+early-unread content store spawner SinkFault h = h
 early-unread content store spawner StoreFault h = h
 early-unread content store spawner StartFault h = absurd h.1
 early-unread content store spawner (PipeFault _) h = h

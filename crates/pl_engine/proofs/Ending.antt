@@ -4,8 +4,8 @@ use Rattle.std.proofs.lemmas.Grind.{common_steps}
 use Rattle.std.proofs.lemmas.List.{append-nil}
 use Rattle.pl_decide.specs.declared.outcome.Outcome.{Outcome}
 use Rattle.pl_decide.specs.declared.outcome.Outcome.TheVariants.{Done, OutOfMemory}
-use Rattle.pl_decide.specs.declared.outcome.Problem.{Problem}
-use Rattle.pl_decide.specs.declared.outcome.Problem.TheVariants as problem
+use Rattle.pl_decide.specs.declared.problem.Problem.{Problem}
+use Rattle.pl_decide.specs.declared.problem.Problem.TheVariants as problem
 use Rattle.pl_events.specs.Closing.{has_stop}
 use Rattle.pl_events.specs.declared.event.Event.{Event}
 use Rattle.pl_world.specs.Counts.{Rose}
@@ -104,6 +104,8 @@ problem_not_done at (problem.ChildEnded child) h = cc
 problem_not_done at (problem.BadFrame child bytes) h = cc
 problem_not_done at problem.TooManyResources h = cc
 problem_not_done at problem.NoMemory h = cc
+problem_not_done at problem.StartFault h = cc
+problem_not_done at trouble h = cc
 
 event_not_done : (at : ℕ) (trouble : Option Problem) → outcome_of_event at trouble ≡ Some Done → ⊥
 event_not_done at None h = cc

@@ -20,7 +20,8 @@ use Rattle.pl_model.specs.Run.{Fixed}
 use Rattle.pl_model.specs.Requests.{may_be_next}
 use Rattle.pl_model.specs.HostLines.{Causes, EndAdds, HostTook, IsNoMessage, RequestAdds, TookAfter}
 use Rattle.pl_engine.specs.Spelled.{host_spelling, is_success_word, request_of_word}
-use Rattle.pl_engine.specs.Journal.{end_event, is_want_end}
+use Rattle.pl_engine.specs.Journal.{end_event}
+use Rattle.pl_model.specs.Causes.{is_want_end}
 use Rattle.pl_engine.specs.Heard.{EndHeard, IfEnded, IfFaulted}
 use Rattle.pl_engine.specs.Answered.{Taken}
 use Rattle.pl_engine.specs.Stored.{Adds}

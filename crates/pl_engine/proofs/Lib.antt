@@ -7,3 +7,4 @@ pub mod Accepting
 pub mod Hearing
 pub mod Ending
 pub mod Beginning
+pub mod Causing

@@ -1,8 +1,8 @@
 -- How the store stands to a history that grows.
-use Rattle.std.proofs.Common.{◌≡◌, ◌⊎◌, ℕ, ◌+◌, ◌-◌, ◌<◌, ◌≤◌, Bool, true, false, ◌||◌, not, List, [], ◌∷◌, ◌++◌, length, map, All, AllPairs, Contains, Option, Some, None, is_none, option_map, refl, sym, ◌∙◌, ap, subst, inl, inr, arith, add-one, ◌==◌, drop, suc, append_assoc}
+use Rattle.std.proofs.Common.{◌≡◌, ◌⊎◌, ℕ, ◌+◌, ◌-◌, ◌<◌, ◌≤◌, Bool, true, false, ◌||◌, not, List, [], ◌∷◌, ◌++◌, length, map, All, AllPairs, Contains, Option, Some, None, option_map, refl, sym, ◌∙◌, ap, subst, inl, inr, arith, add-one, ◌==◌, drop, suc, append_assoc}
 use Rattle.std.proofs.lemmas.Grind.{common_steps}
 use Rattle.std.proofs.lemmas.Bool.Decides.{nat_tests}
-use Rattle.std.proofs.lemmas.List.{map-append}
+use Rattle.std.proofs.lemmas.List.{append-nil, map-append}
 use Rattle.std.proofs.lemmas.List.Elements.{All-push, Contains-append_left, Contains-push, recursion_from_All}
 use Rattle.std.proofs.lemmas.List.Quantifiers.{all_pairs_push}
 use Rattle.std.specs.List.{AllByRecursion, list_all}
@@ -15,15 +15,17 @@ use Rattle.pl_events.specs.declared.event.Stop.TheVariants.{StoreFault, NoMemory
 use Rattle.pl_world.specs.Told.{Grew, IsKeptOrAdded}
 use Rattle.pl_model.specs.Run.{Fixed, Spelling}
 use Rattle.pl_state.specs.declared.entry.Entry.{Entry}
-use Rattle.pl_model.specs.Requests.{goals_of}
-use Rattle.pl_model.specs.Entries.{entries_after, new_entries, state_of}
+use Rattle.pl_state.specs.Component.{bare_entry, bare_state}
+use Rattle.pl_state.specs.declared.goal.Goal.{Goal}
+use Rattle.pl_model.specs.Requests.{goal_at, goals_of}
+use Rattle.pl_model.specs.Entries.{entries_after, entry_if, new_entries, state_of}
 use Rattle.pl_model.specs.Saves.{AllMarked, HasMark, IsFurther, IsSaved, IsStory, LacksForFault, LacksForMemory, is_after_save, must_save, prefix_of, saves_of}
-use Rattle.pl_state.specs.declared.entries.Snapshot.{Snapshot}
+use Rattle.pl_state.specs.declared.snapshot.Snapshot.{Snapshot}
 use Rattle.pl_world.specs.Counts.{Rose}
-use Rattle.pl_checkpoint.specs.Spelled.{checkpoint_text}
+use Rattle.pl_checkpoint.specs.Spelled.{IsBare, checkpoint_text}
 use Rattle.pl_events.specs.declared.event.Stop.TheVariants.{HostPipeFault, TooManyResources, MessageTooLong}
 use Rattle.pl_engine.specs.Spelled.{host_spelling}
-use Rattle.pl_model.specs.Problems.{outcome_of_problem, problem_of_stop}
+use Rattle.pl_model.specs.Causes.{is_want_stop}
 use Rattle.pl_engine.specs.Answered.{Stops}
 use Rattle.pl_engine.specs.Journal.{Consistent, kept_event, run_of, stop_event, stopped_by}
 use Rattle.pl_engine.specs.Kept.{IfFault, IfWant}
@@ -60,7 +62,7 @@ module _ (run : Fixed) (s : Spelling) where
       | inr some ↦ inr (
         some.0,
         same_saves event past marks h.after_saves ∙ some.1
-            ∙ ap (λ (entries : List Entry). some.0 ++ s.state_text (record { stack = run.stack; entries = entries }) ∷ []) (sym (same_entries event past need)),
+            ∙ ap (λ (entries : List Entry). some.0 ++ s.state_text (bare_state run.stack entries) ∷ []) (sym (same_entries event past need)),
       )
     ];
   }
@@ -327,7 +329,30 @@ Rose-later start before now h rose = omega arith
 
 -- the journal's state is that of its history
 pub state_is : (run : Fixed) (journal : Journal) → Consistent run journal → journal.state ≡ state_of run journal.history
-state_is run journal h = grind (arith, common_steps)
+state_is run journal h = h.state
+
+abbrev IsBareEntry : Entry → Type 0
+IsBareEntry entry = entry ≡ bare_entry entry.urn entry.custom entry.kind entry.parent
+
+-- the entries of goals are bare
+bare_after : (what : What) (goals : List Goal) (entries : List Entry) → All IsBareEntry entries → All IsBareEntry (entries_after what goals entries)
+bare_after (Told _) goals entries h = h
+bare_after (HostGone _) goals entries h = h
+bare_after (Kept goal) goals entries h = kept (goal_at goals goal)
+  where
+    kept : (found : Option Goal) → All IsBareEntry (entries ++ entry_if found)
+    kept None = subst (λ (es : List Entry). All IsBareEntry es) (sym (append-nil entries)) h
+    kept (Some goal) = All-push IsBareEntry entries _ h refl
+bare_after (Posted _) goals entries h = h
+bare_after (Stopped _) goals entries h = h
+
+bare_entries : (run : Fixed) (history : List Event) → All IsBareEntry (new_entries run history)
+bare_entries run [] = λ k d below. absurd (omega arith)
+bare_entries run (event ∷ past) = bare_after event.what (goals_of run past) (new_entries run past) (bare_entries run past)
+
+-- a journal's state can be spelled
+pub IsBare-state : (run : Fixed) (journal : Journal) → Consistent run journal → IsBare journal.state
+IsBare-state run journal h = subst IsBare (sym h.state) (record { entries = bare_entries run journal.history; others = refl })
 
 -- the checkpoint's text is how this engine spells a state
 pub state_text-host : (state : Snapshot) → host_spelling.state_text state ≡ checkpoint_text state
@@ -363,7 +388,7 @@ or_true true = refl
 or_true false = refl
 
 -- want of memory is noted
-pub want_of : (stop : Stop) (before now : Bool) (P : Type 0) → now ≡ (before || is_none (outcome_of_problem 0 (problem_of_stop stop)))
+pub want_of : (stop : Stop) (before now : Bool) (P : Type 0) → now ≡ (before || is_want_stop stop)
     → IfFault stop P → IfWant stop (now ≡ true)
 want_of StoreFault before now P is h = tt
 want_of HostPipeFault before now P is h = h

@@ -4,7 +4,7 @@ use Rattle.pl_cli.specs.declared.table.OptionName.TheVariants.{Stack, Project}
 use Rattle.pl_cli.specs.Place.{given_value}
 use Rattle.pl_cli.specs.Reading.{bad_place, engine_words, host_words}
 use Rattle.pl_decide.specs.declared.outcome.Outcome.{Outcome}
-use Rattle.pl_decide.specs.declared.outcome.Outcome.TheVariants.{Done, Failed, TooManyResources, BadWords, NotBuilt, StoreFault, StartFault, PipeFault, ChildEnded, BadFrame, OutOfMemory}
+use Rattle.pl_decide.specs.declared.outcome.Outcome.TheVariants.{Done, Failed, TooManyResources, BadWords, NotBuilt, BadCheckpoint, PendingOperations, StoreFault, SideFault, StartFault, PipeFault, SinkFault, ChildEnded, BadFrame, OutOfMemory}
 use Rattle.pl_events.specs.Closing.{has_host_end}
 use Rattle.pl_events.specs.declared.event.Event.{Event}
 use Rattle.pl_world.specs.declared.trouble.Trouble.{Trouble}
@@ -29,9 +29,13 @@ status_code (Failed _ _) = 1
 status_code TooManyResources = 1
 status_code (BadWords _) = 2
 status_code NotBuilt = 3
+status_code (BadCheckpoint _) = 3
+status_code (PendingOperations _) = 4
 status_code StoreFault = 5
+status_code SideFault = 5
 status_code StartFault = 5
 status_code (PipeFault _) = 5
+status_code SinkFault = 5
 status_code (ChildEnded _) = 6
 status_code (BadFrame _ _) = 6
 status_code OutOfMemory = 7
@@ -87,9 +91,13 @@ IsEarly content store spawner (Failed _ _) = ⊥
 IsEarly content store spawner TooManyResources = ⊥
 IsEarly content store spawner (BadWords place) = ⊥
 IsEarly content store spawner NotBuilt = IfSome content (λ texts. 0 < length texts)
+IsEarly content store spawner (BadCheckpoint _) = ⊥
+IsEarly content store spawner (PendingOperations _) = ⊥
 IsEarly content store spawner StoreFault = store
+IsEarly content store spawner SideFault = ⊥
 IsEarly content store spawner StartFault = IfSome content (λ texts. texts ≡ []) × spawner
 IsEarly content store spawner (PipeFault _) = ⊥
+IsEarly content store spawner SinkFault = ⊥
 IsEarly content store spawner (ChildEnded _) = ⊥
 IsEarly content store spawner (BadFrame _ _) = ⊥
 IsEarly content store spawner OutOfMemory = ⊤
@@ -105,6 +113,10 @@ IsRefused words content store spawner Done = ⊥
 IsRefused words content store spawner (Failed _ _) = ⊥
 IsRefused words content store spawner TooManyResources = ⊥
 IsRefused words content store spawner NotBuilt = (bad_place words ≡ None) × IsEarly content store spawner NotBuilt
+IsRefused words content store spawner (BadCheckpoint _) = ⊥
+IsRefused words content store spawner (PendingOperations _) = ⊥
+IsRefused words content store spawner SideFault = ⊥
+IsRefused words content store spawner SinkFault = ⊥
 IsRefused words content store spawner StoreFault = (bad_place words ≡ None) × IsEarly content store spawner StoreFault
 IsRefused words content store spawner StartFault = (bad_place words ≡ None) × IsEarly content store spawner StartFault
 IsRefused words content store spawner (PipeFault _) = ⊥

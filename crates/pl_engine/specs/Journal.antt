@@ -8,7 +8,9 @@ use Rattle.pl_events.specs.declared.event.HostEnd.TheVariants.{Success, Ended, P
 use Rattle.pl_events.specs.declared.event.Request.TheVariants.{Register}
 use Rattle.pl_events.specs.declared.event.What.TheVariants.{Told, HostGone, Kept, Posted, Stopped}
 use Rattle.pl_state.specs.declared.goal.Registration.{Registration}
+use Rattle.pl_state.specs.Component.{bare_state}
 use Rattle.pl_model.specs.Run.{Fixed}
+use Rattle.pl_model.specs.Causes.{has_want}
 use Rattle.pl_model.specs.Problems.{has_problem, least_outcome}
 use Rattle.pl_model.specs.Requests.{last_number}
 use Rattle.pl_model.specs.Entries.{new_entries}
@@ -22,6 +24,7 @@ run_of journal = record { stack = journal.state.stack; project = journal.project
 
 -- what the journal keeps is what its history says, and the history is legal
 pub record Consistent (run : Fixed) (journal : Journal) : Type 0 where
+  pub state : journal.state ≡ bare_state run.stack (new_entries run journal.history)
   pub stack : journal.state.stack ≡ run.stack
   pub project : journal.project ≡ run.project
   pub entries : journal.state.entries ≡ new_entries run journal.history
@@ -31,6 +34,7 @@ pub record Consistent (run : Fixed) (journal : Journal) : Type 0 where
   pub outcome : journal.outcome ≡ least_outcome journal.history
   pub known : journal.halted ≡ (is_some journal.outcome || journal.wanted)
   pub halting : journal.stopped ≡ true → journal.halted ≡ true
+  pub wants : has_want journal.history ≡ true → journal.wanted ≡ true
   pub legal : IsLegal run host_spelling journal.history
 
 -- the events that the journal appends
@@ -48,14 +52,6 @@ stop_event stop = record { seat = 0; what = Stopped stop }
 
 abbrev pub end_event : HostEnd → Event
 end_event end = record { seat = 0; what = HostGone end }
-
--- whether the host's end is want of memory
-abbrev pub is_want_end : HostEnd → Bool
-is_want_end Success = false
-is_want_end Ended = false
-is_want_end PipeFault = false
-is_want_end (BadFrame _) = false
-is_want_end NoMemory = true
 
 -- the history after a stop: the first one stands alone
 abbrev pub stopped_by : Stop → Bool → List Event → List Event

@@ -1,9 +1,10 @@
 -- How a registration is judged by the entries that the state has.
 use Rattle.std.specs.Prelude.{◌≡◌, ◌&&◌, not, Bool, is_none, List}
 use Rattle.pl_urn.specs.Grammar.{child_fault}
-use Rattle.pl_state.specs.declared.entries.Snapshot.{Snapshot}
+use Rattle.pl_state.specs.declared.snapshot.Snapshot.{Snapshot}
 use Rattle.pl_state.specs.declared.entry.Entry.{Entry}
 use Rattle.pl_state.specs.declared.goal.Goal.{Goal}
+use Rattle.pl_state.specs.Component.{is_plain}
 use Rattle.pl_state.specs.declared.goal.Registration.{Registration}
 use Rattle.std.specs.Prelude.{ℕ}
 use Rattle.pl_model.specs.Run.{Fixed}
@@ -19,7 +20,7 @@ state_run state project = record { stack = state.stack; project = project }
 -- whether a registration may be accepted where these entries are recorded
 abbrev pub is_placeable : Fixed → List Entry → Registration → Bool
 is_placeable run entries told =
-    is_none (child_fault told.kind told.name)
+    is_plain told && is_none (child_fault told.kind told.name)
     && (parent_stands entries told.parent && not (has_entry entries (goal_for run told).urn))
 
 -- what is made for a goal

@@ -7,3 +7,4 @@ pub mod Answered
 pub mod Heard
 pub mod Running
 pub mod Headline
+pub mod Caused

@@ -1,11 +1,13 @@
-ghost use Rattle.std.specs.Prelude.{◌≡◌, ◌+◌, ◌++◌, ◌≤◌, ◌^◌, [], ◌∷◌, true, false, ◌||◌, Some, None, is_none, is_some, length, IfErr, OnErr, OnOk};
+ghost use Rattle.std.specs.Prelude.{◌≡◌, ◌+◌, ◌++◌, ◌≤◌, ◌^◌, [], ◌∷◌, true, false, ◌||◌, Some, None, is_some, length, IfErr, OnErr, OnOk};
 ghost use Rattle.pl_engine.specs.Spelled.{host_spelling};
-ghost use Rattle.pl_engine.specs.Journal.{Consistent, end_event, is_want_end, kept_event, posted_event, run_of, stopped_by, told_event};
+ghost use Rattle.pl_engine.specs.Journal.{Consistent, end_event, kept_event, posted_event, run_of, stopped_by, told_event};
 ghost use Rattle.pl_events.specs.Closing.{has_host_end};
 ghost use Rattle.pl_model.specs.Requests.{goal_at, goals_of, may_be_next};
+ghost use Rattle.pl_state.specs.Component.{bare_state};
 ghost use Rattle.pl_model.specs.Entries.{entry_if};
 ghost use Rattle.pl_model.specs.Due.{is_keep_due, is_post_due};
 ghost use Rattle.pl_model.specs.Legal.{StopFits};
+ghost use Rattle.pl_model.specs.Causes.{is_want_end, is_want_stop};
 ghost use Rattle.pl_model.specs.Problems.{first_of, outcome_of_problem, outcome_of_event, problem_of_end, problem_of_stop};
 
 use pl_decide::{Child, Outcome, Problem};
@@ -54,13 +56,12 @@ fn outcome_of_stop(at: u64, stop: Stop) -> Option<Outcome>
     }
 }
 
-/// The first outcome if there is one, or else the second.
-fn earlier(first: Option<Outcome>, second: Option<Outcome>) -> Option<Outcome>
-    ensures { result ≡ first_of first second }
+/// Keeps the first outcome if there is one, and else takes the second.
+fn settle(first: &mut Option<Outcome>, second: Option<Outcome>)
+    ensures { first.new ≡ first_of first.old second }
 {
-    match first {
-        Some(outcome) => Some(outcome),
-        None => second,
+    if first.is_none() {
+        *first = second;
     }
 }
 
@@ -77,7 +78,7 @@ fn what_end_is(end: &HostEnd) -> (bool, bool)
 }
 
 fn is_want(stop: Stop) -> bool
-    ensures { result ≡ is_none (outcome_of_problem 0 (problem_of_stop stop)) }
+    ensures { result ≡ is_want_stop stop }
 {
     match stop {
         Stop::NoMemory => true,
@@ -90,7 +91,7 @@ impl Journal {
     /// A journal without an event; takes no memory.
     pub fn new(alloc: Global, history: History, state: Snapshot, project: Text) -> Journal
         requires history { history ≡ [] }
-        requires entries { state.entries ≡ [] }
+        requires state { state ≡ bare_state state.stack [] }
         ensures consistent { Consistent (run_of result) result }
         ensures history { result.history ≡ [] }
         ensures marks { result.marks.items ≡ [] }
@@ -118,7 +119,7 @@ impl Journal {
         ensures consistent { Consistent (run_of self.old) self.new }
         ensures history { self.new.history ≡ stopped_by stop self.old.stopped self.old.history }
         ensures marks { self.new.marks.items ≡ self.old.marks.items }
-        ensures want { self.new.wanted ≡ (self.old.wanted || is_none (outcome_of_problem 0 (problem_of_stop stop))) }
+        ensures want { self.new.wanted ≡ (self.old.wanted || is_want_stop stop) }
         ensures stopped { self.new.stopped ≡ true }
     {
         self.wanted = self.wanted || is_want(stop);
@@ -126,8 +127,7 @@ impl Journal {
             return;
         }
         let at = self.history.len() as u64;
-        let outcome = self.outcome.take();
-        self.outcome = earlier(outcome, outcome_of_stop(at, stop));
+        settle(&mut self.outcome, outcome_of_stop(at, stop));
         self.history.push_stop(REGISTRAR, stop);
         self.stopped = true;
         self.halted = true;
@@ -215,8 +215,7 @@ impl Journal {
         let (problem, want) = what_end_is(&end);
         self.wanted = self.wanted || want;
         self.halted = self.halted || problem;
-        let before = self.outcome.take();
-        self.outcome = earlier(before, outcome);
+        settle(&mut self.outcome, outcome);
         self.history.push_host_end(REGISTRAR, end);
     }
 }

@@ -1,6 +1,7 @@
 ghost use Rattle.std.specs.Prelude.{◌≡◌, ◌<◌, ◌&&◌, ◌||◌, false, true, not, Some, IfErr, IfOk, IfSome, is_none, is_some, nat_lt, OnErr, OnOk};
 ghost use Rattle.std.specs.Option.{option_copied};
 ghost use Rattle.pl_urn.specs.Grammar.{child_fault, child_text, IsScope};
+ghost use Rattle.pl_state.specs.Component.{component_entry};
 ghost use Rattle.pl_model.specs.Requests.{goal_for};
 ghost use Rattle.pl_model.specs.Due.{parent_stands};
 ghost use Rattle.pl_engine.specs.Judged.{is_placeable, IsPlacedFor, state_run};
@@ -61,12 +62,15 @@ pub fn place(
     ensures refused { result ≡ Err Refusal.NotNext →
         is_placeable (state_run state.now project.now) state.now.entries told.now ≡ false }
 {
+    if !told.is_plain() {
+        return Err(Refusal::NotNext);
+    }
     let parent = parent_of(&state.entries, told)?;
     let urn = make_urn(alloc, parent, state, project, told)?;
     if state.entries.has_urn(urn.as_str()) {
         return Err(Refusal::NotNext);
     }
-    make_placed(urn, told, parent)
+    make_placed(alloc, urn, told, parent)
 }
 
 /// The recorded parent that a registration names; none where it names none.
@@ -116,21 +120,21 @@ fn make_urn(
     }
 }
 
-fn make_placed(urn: Urn, told: &Registration, parent: Option<&Urn>) -> Result<Placed, Refusal>
+fn make_placed(
+    alloc: Global,
+    urn: Urn,
+    told: &Registration,
+    parent: Option<&Urn>,
+) -> Result<Placed, Refusal>
     ensures urn { IfOk result (λ placed. placed.urn ≡ urn) }
     ensures entry { IfOk result (λ placed. placed.entry
-        ≡ record { urn = urn; custom = false; kind = told.now.kind; parent = option_copied parent.entry }) }
+        ≡ component_entry urn told.now.kind (option_copied parent.entry)) }
     ensures memory { OnErr result (result ≡ Err Refusal.NoMemory) }
 {
     let answer = urn.copy()?;
     let kind = told.kind.copy()?;
     let parent = copy_of(parent)?;
-    let entry = Entry {
-        urn,
-        custom: false,
-        kind,
-        parent,
-    };
+    let entry = Entry::component(alloc, urn, kind, parent)?;
     Ok(Placed { entry, urn: answer })
 }
 

@@ -7,6 +7,7 @@ ghost use Rattle.pl_model.specs.Entries.{entry_if};
 ghost use Rattle.pl_model.specs.Due.{is_keep_due};
 ghost use Rattle.pl_engine.specs.Spelled.{host_spelling};
 ghost use Rattle.pl_engine.specs.Journal.{Consistent, run_of};
+ghost use Rattle.pl_engine.specs.Caused.{SameAnswerFaults, StoreCaused};
 ghost use Rattle.pl_engine.specs.Kept.{IfFault, IfWant, KeepsStored, Recorded};
 
 use crate::journal::Journal;
@@ -33,6 +34,8 @@ pub fn keep<S: Store>(
     ensures recorded { Recorded result goal journal.old.history journal.new.history }
     ensures wanted { journal.old.wanted ≡ true → journal.new.wanted ≡ true }
     ensures faults_never_fall { S.faults store.old ≤ S.faults store.new }
+    ensures store_caused { StoreCaused journal.old.history journal.new.history (S.faults store.old) (S.faults store.new) }
+    ensures same_answers { SameAnswerFaults journal.old.history journal.new.history }
     ensures stored { KeepsStored (run_of journal.old) journal.old journal.new
         (S.faults store.old) (S.faults store.new) (S.story store.old) (S.story store.new) }
 {
@@ -53,6 +56,7 @@ pub fn keep<S: Store>(
 
 /// Replaces the checkpoint by the state, and marks that it was replaced.
 fn save<S: Store>(alloc: Global, journal: &mut Journal, store: &mut S) -> Result<(), Stop>
+    requires consistent { Consistent (run_of journal.old) journal.old }
     ensures kept { journal.new ≡ record journal.old { marks = journal.new.marks } }
     ensures marked { OnOk result (journal.new.marks.items ≡ journal.old.marks.items ++ length journal.old.history ∷ []) }
     ensures unmarked { OnErr result (journal.new.marks.items ≡ journal.old.marks.items) }

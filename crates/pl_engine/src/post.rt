@@ -7,6 +7,7 @@ ghost use Rattle.pl_host_msg.specs.Answer.{answer_text};
 ghost use Rattle.pl_model.specs.Due.{answer_of, is_post_due, result_of};
 ghost use Rattle.pl_engine.specs.Spelled.{host_spelling};
 ghost use Rattle.pl_engine.specs.Journal.{Consistent, run_of};
+ghost use Rattle.pl_engine.specs.Caused.{AnswersCaused, SameAnswerFaults, SameStoreFaults};
 ghost use Rattle.pl_engine.specs.Answered.{Answers, Gives, KeepsWritten, Stops, urn_of};
 
 use crate::journal::Journal;
@@ -43,6 +44,8 @@ pub fn post<Q: Pipe>(
     ensures failing { writing.new.failed ≡ true → journal.new.stopped ≡ true }
     ensures wanted { journal.old.wanted ≡ true → journal.new.wanted ≡ true }
     ensures faults_never_fall { Q.faults writing.old.half ≤ Q.faults writing.new.half }
+    ensures answers_caused { AnswersCaused journal.old.history journal.new.history (Q.faults writing.old.half) (Q.faults writing.new.half) }
+    ensures same_store { SameStoreFaults journal.old.history journal.new.history }
     ensures written { KeepsWritten (run_of journal.old) journal.old journal.new writing.old.failed writing.new.failed
         (Q.faults writing.old.half) (Q.faults writing.new.half) (Q.given writing.old.half) (Q.given writing.new.half) }
 {
@@ -74,6 +77,8 @@ fn give_answer<Q: Pipe>(
     ensures failing { writing.new.failed ≡ true → journal.new.stopped ≡ true }
     ensures wanted { journal.old.wanted ≡ true → journal.new.wanted ≡ true }
     ensures faults_never_fall { Q.faults writing.old.half ≤ Q.faults writing.new.half }
+    ensures answers_caused { AnswersCaused journal.old.history journal.new.history (Q.faults writing.old.half) (Q.faults writing.new.half) }
+    ensures same_store { SameStoreFaults journal.old.history journal.new.history }
     ensures written { KeepsWritten (run_of journal.old) journal.old journal.new writing.old.failed writing.new.failed
         (Q.faults writing.old.half) (Q.faults writing.new.half) (Q.given writing.old.half) (Q.given writing.new.half) }
 {
@@ -126,6 +131,8 @@ fn answer_body(
     ensures consistent { Consistent (run_of journal.old) journal.new }
     ensures marks { journal.new.marks.items ≡ journal.old.marks.items }
     ensures stops { Stops journal.old.history journal.new.history }
+    ensures same_answers { SameAnswerFaults journal.old.history journal.new.history }
+    ensures same_store { SameStoreFaults journal.old.history journal.new.history }
     ensures wanted { journal.new.wanted ≡ journal.old.wanted }
     ensures body { IfOk result IsBody }
     ensures answer { IfOk result (λ body. body ≡ answer_text n (answer_of (run_of journal.old) host_spelling journal.new.history n)) }

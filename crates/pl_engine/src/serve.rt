@@ -4,6 +4,7 @@ ghost use Rattle.pl_model.specs.Entries.{entry_if};
 ghost use Rattle.pl_model.specs.Due.{has_room, is_ready, NothingDue};
 ghost use Rattle.pl_engine.specs.Journal.{Consistent, run_of};
 ghost use Rattle.pl_engine.specs.Judged.{is_placeable, IsPlacedFor};
+ghost use Rattle.pl_engine.specs.Caused.{AnswersCaused, EndCaused, SameAnswerFaults, SameStoreFaults, StoreCaused};
 ghost use Rattle.pl_engine.specs.Kept.{KeepsStored};
 ghost use Rattle.pl_engine.specs.Answered.{KeepsWritten};
 ghost use Rattle.pl_model.specs.Saves.{must_save};
@@ -48,6 +49,8 @@ fn halt<Q: Pipe>(
     ensures unsaved { Adds (λ what. not (must_save what)) journal.old.history journal.new.history }
     ensures wanted { journal.old.wanted ≡ true → journal.new.wanted ≡ true }
     ensures faults_never_fall { Q.faults writing.old.half ≤ Q.faults writing.new.half }
+    ensures answers_caused { AnswersCaused journal.old.history journal.new.history (Q.faults writing.old.half) (Q.faults writing.new.half) }
+    ensures same_store { SameStoreFaults journal.old.history journal.new.history }
     ensures written { KeepsWritten (run_of journal.old) journal.old journal.new writing.old.failed writing.new.failed
         (Q.faults writing.old.half) (Q.faults writing.new.half) (Q.given writing.old.half) (Q.given writing.new.half) }
 {
@@ -85,6 +88,8 @@ fn accept<S: Store, Q: Pipe>(
     ensures goes { Goes result n told (run_of journal.old) journal.old journal.new writing.new.failed }
     ensures faults_never_fall { S.faults store.old ≤ S.faults store.new }
     ensures half_faults_never_fall { Q.faults writing.old.half ≤ Q.faults writing.new.half }
+    ensures store_caused { StoreCaused journal.old.history journal.new.history (S.faults store.old) (S.faults store.new) }
+    ensures answers_caused { AnswersCaused journal.old.history journal.new.history (Q.faults writing.old.half) (Q.faults writing.new.half) }
     ensures stored { KeepsStored (run_of journal.old) journal.old journal.new
         (S.faults store.old) (S.faults store.new) (S.story store.old) (S.story store.new) }
     ensures written { KeepsWritten (run_of journal.old) journal.old journal.new writing.old.failed writing.new.failed
@@ -119,6 +124,8 @@ fn record_goal<S: Store>(
     ensures recorded { RecordedAs placed.urn result (length journal.old.state.entries) journal.old.history journal.new.history }
     ensures wanted { journal.old.wanted ≡ true → journal.new.wanted ≡ true }
     ensures faults_never_fall { S.faults store.old ≤ S.faults store.new }
+    ensures store_caused { StoreCaused journal.old.history journal.new.history (S.faults store.old) (S.faults store.new) }
+    ensures same_answers { SameAnswerFaults journal.old.history journal.new.history }
     ensures stored { KeepsStored (run_of journal.old) journal.old journal.new
         (S.faults store.old) (S.faults store.new) (S.story store.old) (S.story store.new) }
 {
@@ -143,6 +150,8 @@ fn end_messages(alloc: Global, journal: &mut Journal, end: HostEnd)
     ensures consistent { Consistent (run_of journal.old) journal.new }
     ensures ended { EndedBy end journal.old.history journal.new.history journal.new.wanted }
     ensures marks { journal.new.marks.items ≡ journal.old.marks.items }
+    ensures same_store { SameStoreFaults journal.old.history journal.new.history }
+    ensures same_answers { SameAnswerFaults journal.old.history journal.new.history }
     ensures wanted { journal.old.wanted ≡ true → journal.new.wanted ≡ true }
 {
     match outcome_of_end(alloc, &end) {
@@ -187,6 +196,8 @@ fn register<S: Store, Q: Pipe>(
     ensures did { Registered result (Request.Register n told) body (run_of journal.old) journal.old journal.new writing.new.failed }
     ensures faults_never_fall { S.faults store.old ≤ S.faults store.new }
     ensures half_faults_never_fall { Q.faults writing.old.half ≤ Q.faults writing.new.half }
+    ensures store_caused { StoreCaused journal.old.history journal.new.history (S.faults store.old) (S.faults store.new) }
+    ensures answers_caused { AnswersCaused journal.old.history journal.new.history (Q.faults writing.old.half) (Q.faults writing.new.half) }
     ensures stored { KeepsStored (run_of journal.old) journal.old journal.new
         (S.faults store.old) (S.faults store.new) (S.story store.old) (S.story store.new) }
     ensures written { KeepsWritten (run_of journal.old) journal.old journal.new writing.old.failed writing.new.failed
@@ -228,6 +239,9 @@ fn step<S: Store, Q: Pipe>(
         (Q.taken reading.old) (Q.taken reading.new) (Q.faults reading.new) (Q.ends reading.new) }
     ensures faults_never_fall { S.faults store.old ≤ S.faults store.new }
     ensures half_faults_never_fall { Q.faults writing.old.half ≤ Q.faults writing.new.half }
+    ensures store_caused { StoreCaused journal.old.history journal.new.history (S.faults store.old) (S.faults store.new) }
+    ensures answers_caused { AnswersCaused journal.old.history journal.new.history (Q.faults writing.old.half) (Q.faults writing.new.half) }
+    ensures end_caused { result ≡ false → EndCaused (Q.faults reading.new) (Q.ends reading.new) journal.new.history }
     ensures stored { KeepsStored (run_of journal.old) journal.old journal.new
         (S.faults store.old) (S.faults store.new) (S.story store.old) (S.story store.new) }
     ensures written { KeepsWritten (run_of journal.old) journal.old journal.new writing.old.failed writing.new.failed
@@ -277,6 +291,9 @@ pub fn serve<R: Wait, S: Store, Q: Pipe>(
         (Q.taken reading.old) (Q.taken reading.new) (Q.faults reading.new) (Q.ends reading.new) }
     ensures faults_never_fall { S.faults store.old ≤ S.faults store.new }
     ensures half_faults_never_fall { Q.faults writing.old.half ≤ Q.faults writing.new.half }
+    ensures store_caused { StoreCaused journal.old.history journal.new.history (S.faults store.old) (S.faults store.new) }
+    ensures answers_caused { AnswersCaused journal.old.history journal.new.history (Q.faults writing.old.half) (Q.faults writing.new.half) }
+    ensures end_caused { EndCaused (Q.faults reading.new) (Q.ends reading.new) journal.new.history }
     ensures stored { KeepsStored (run_of journal.old) journal.old journal.new
         (S.faults store.old) (S.faults store.new) (S.story store.old) (S.story store.new) }
     ensures written { KeepsWritten (run_of journal.old) journal.old journal.new writing.old.failed writing.new.failed

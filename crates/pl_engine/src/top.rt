@@ -1,7 +1,9 @@
 ghost use Rattle.std.specs.Prelude.{◌≡◌, ◌≤◌, ◌++◌, [], ◌∷◌, true, None, Some, codes, map, reverse, string_bytes, IfErr, IfOk, IfSome, IsSome, MatchOption, OnOk};
 ghost use Rattle.pl_urn.specs.Grammar.{IsScope};
+ghost use Rattle.pl_state.specs.Component.{bare_state};
 ghost use Rattle.pl_world.specs.Counts.{Rose};
 ghost use Rattle.pl_world.specs.Told.{IsFresh};
+ghost use Rattle.pl_model.specs.Causes.{HasCauses};
 ghost use Rattle.pl_model.specs.HostLines.{HostLines};
 ghost use Rattle.pl_cli.specs.Reading.{host_words};
 ghost use Rattle.pl_model.specs.Run.{Fixed};
@@ -16,8 +18,7 @@ use crate::world::{Finished, RunRecord, World};
 use pl_cli::{Command, RunWords, WordFault, read_words};
 use pl_decide::Outcome;
 use pl_events::History;
-use pl_state::{Entries, Snapshot};
-use pl_urn::is_scope;
+use pl_state::{Entries, Pendings, Snapshot};
 use pl_value::{OutOfMemory, Text, Words};
 use pl_world::{Gate, Ids, Pipe, Sink, Spawner, Store, Trouble};
 use std::alloc::Global;
@@ -34,9 +35,13 @@ fn status_of(outcome: &Outcome) -> u8
         Outcome::TooManyResources => 1,
         Outcome::BadWords { .. } => 2,
         Outcome::NotBuilt => 3,
+        Outcome::BadCheckpoint(_) => 3,
+        Outcome::PendingOperations(_) => 4,
         Outcome::StoreFault => 5,
+        Outcome::SideFault => 5,
         Outcome::StartFault => 5,
         Outcome::PipeFault(_) => 5,
+        Outcome::SinkFault => 5,
         Outcome::ChildEnded(_) => 6,
         Outcome::BadFrame { .. } => 6,
         Outcome::OutOfMemory => 7,
@@ -93,6 +98,8 @@ fn refused<S: Store, B: Drop, P: Spawner, W: Drop, I: Drop, G: Drop>(
     let base = Snapshot {
         stack: Text::from_string(String::new(alloc)),
         entries: Entries::new(alloc),
+        pending: Pendings::new(alloc),
+        rest: Text::from_string(String::new(alloc)),
     };
     let run = RunRecord {
         base,
@@ -119,36 +126,42 @@ struct Served<Q: Pipe> {
 fn run_host<R: Wait, S: Store, Q: Pipe>(
     rt: &R,
     alloc: Global,
-    stack: Text,
+    state: Snapshot,
     project: Text,
     history: History,
     store: &mut S,
     halves: (Q, Q),
 ) -> Served<Q>
-    requires stack { IsScope stack }
+    requires stack { IsScope state.stack }
+    requires state { state ≡ bare_state state.stack [] }
     requires project { IsScope project }
     requires history { history ≡ [] }
     requires reading { IsFresh (Q.given halves.0) (Q.taken halves.0) (Q.faults halves.0) (Q.ends halves.0) }
     requires writing { IsFresh (Q.given halves.1) (Q.taken halves.1) (Q.faults halves.1) (Q.ends halves.1) }
     ensures legal { IfSome result.run.host (λ used.
-        IsLegalRun (record { stack = stack; project = project }) (reverse result.run.history.items) (Q.faults used.1) result.run.wanted) }
-    ensures saved { IsKeptUp (record { stack = stack; project = project }) host_spelling (Rose (S.faults store.old) (S.faults store.new))
+        IsLegalRun (record { stack = state.stack; project = project }) (reverse result.run.history.items) (Q.faults used.1) result.run.wanted) }
+    ensures saved { IsKeptUp (record { stack = state.stack; project = project }) host_spelling (Rose (S.faults store.old) (S.faults store.new))
         result.run.wanted (reverse result.run.history.items) result.run.marks.items (S.story store.old) (S.story store.new) }
     ensures host_lines { IfSome result.run.host (λ used.
-        HostLines (record { stack = stack; project = project }) host_spelling
+        HostLines (record { stack = state.stack; project = project }) host_spelling
         (record { faults = Q.faults used.0; ends = Q.ends used.0; wanted = result.run.wanted })
         (record { faults = Q.faults used.1; ends = 0; wanted = result.run.wanted })
         (reverse result.run.history.items) (Q.taken used.0) (Q.given used.1)) }
-    ensures outcome { IsOutcome (record { stack = stack; project = project }) (reverse result.run.history.items) result.run.marks.items
+    ensures causes { IfSome result.run.host (λ used. HasCauses
+        (record {
+          store_before = S.faults store.old;
+          store_now = S.faults store.new;
+          reading = Q.faults used.0;
+          ends = Q.ends used.0;
+          writing = Q.faults used.1;
+          wanted = result.run.wanted;
+        }) (reverse result.run.history.items)) }
+    ensures outcome { IsOutcome (record { stack = state.stack; project = project }) (reverse result.run.history.items) result.run.marks.items
         result.run.wanted result.outcome (S.story store.old) (S.story store.new) }
     ensures host { IsSome result.run.host }
     ensures faults_never_fall { S.faults store.old ≤ S.faults store.new }
 {
     let (mut reading, half) = halves;
-    let state = Snapshot {
-        stack,
-        entries: Entries::new(alloc),
-    };
     let mut journal = Journal::new(alloc, history, state, project);
     let mut writing = Writing {
         half,
@@ -177,11 +190,18 @@ fn close<Q: Pipe>(alloc: Global, journal: Journal, reading: Q, writing: Writing<
         outcome,
         wanted,
     } = journal;
-    let Snapshot { stack, entries: _ } = state;
+    let Snapshot {
+        stack,
+        entries: _,
+        pending,
+        rest,
+    } = state;
     let Writing { half, failed: _ } = writing;
     let base = Snapshot {
         stack,
         entries: Entries::new(alloc),
+        pending,
+        rest,
     };
     let run = RunRecord {
         base,
@@ -208,6 +228,7 @@ fn start<R: Wait, S: Store, B: Drop, P: Spawner<Cover = S::Cover>, W: Drop, I: D
     requires stack { IsScope stack }
     requires project { IsScope project }
     requires empty { IfSome (S.story world.store) (λ texts. texts ≡ []) }
+    ensures fresh { IfSome result.run.host (λ _. IfSome (S.story world.store) (λ texts. texts ≡ [])) }
     ensures legal { MatchOption result.run.host (result.run.history.items ≡ []) (λ used.
         IsLegalRun (record { stack = stack; project = project }) (reverse result.run.history.items) (P.Pipe.faults used.1) result.run.wanted) }
     ensures saved { MatchOption result.run.host (IsUntouched result.run.marks.items (S.story world.store) (S.story result.world.store)) (λ _.
@@ -218,6 +239,15 @@ fn start<R: Wait, S: Store, B: Drop, P: Spawner<Cover = S::Cover>, W: Drop, I: D
         (record { faults = P.Pipe.faults used.0; ends = P.Pipe.ends used.0; wanted = result.run.wanted })
         (record { faults = P.Pipe.faults used.1; ends = 0; wanted = result.run.wanted })
         (reverse result.run.history.items) (P.Pipe.taken used.0) (P.Pipe.given used.1)) }
+    ensures causes { IfSome result.run.host (λ used. HasCauses
+        (record {
+          store_before = S.faults world.store;
+          store_now = S.faults result.world.store;
+          reading = P.Pipe.faults used.0;
+          ends = P.Pipe.ends used.0;
+          writing = P.Pipe.faults used.1;
+          wanted = result.run.wanted;
+        }) (reverse result.run.history.items)) }
     ensures started { MatchOption result.run.host (P.started result.world.spawner ≡ P.started world.spawner) (λ _.
         P.started result.world.spawner ≡ P.started world.spawner ++ command_words host stack project ∷ []) }
     ensures outcome { MatchOption result.run.host
@@ -232,6 +262,9 @@ fn start<R: Wait, S: Store, B: Drop, P: Spawner<Cover = S::Cover>, W: Drop, I: D
     ) else {
         return refused(alloc, Outcome::OutOfMemory, world);
     };
+    let Ok(state) = Snapshot::new(alloc, stack) else {
+        return refused(alloc, Outcome::OutOfMemory, world);
+    };
     let World {
         mut store,
         side,
@@ -243,7 +276,7 @@ fn start<R: Wait, S: Store, B: Drop, P: Spawner<Cover = S::Cover>, W: Drop, I: D
     match spawner.start_host(alloc, &words) {
         Ok(halves) => {
             let Served { run, outcome } = run_host(
-                rt, alloc, stack, project, history, &mut store, halves,
+                rt, alloc, state, project, history, &mut store, halves,
             );
             let status = status_of(&outcome);
             let world = World {
@@ -291,6 +324,9 @@ fn up<R: Wait, S: Store, B: Drop, P: Spawner<Cover = S::Cover>, W: Drop, I: Drop
     run: RunWords,
     world: World<S, B, P, W, I, G>,
 ) -> Finished<S, B, P, W, I, G>
+    requires stack { IsScope run.stack }
+    requires project { IsScope run.project }
+    ensures fresh { IfSome result.run.host (λ _. IfSome (S.story world.store) (λ texts. texts ≡ [])) }
     ensures legal { MatchOption result.run.host (result.run.history.items ≡ []) (λ used.
         IsLegalRun (record { stack = run.stack; project = run.project }) (reverse result.run.history.items) (P.Pipe.faults used.1) result.run.wanted) }
     ensures saved { MatchOption result.run.host (IsUntouched result.run.marks.items (S.story world.store) (S.story result.world.store)) (λ _.
@@ -301,6 +337,15 @@ fn up<R: Wait, S: Store, B: Drop, P: Spawner<Cover = S::Cover>, W: Drop, I: Drop
         (record { faults = P.Pipe.faults used.0; ends = P.Pipe.ends used.0; wanted = result.run.wanted })
         (record { faults = P.Pipe.faults used.1; ends = 0; wanted = result.run.wanted })
         (reverse result.run.history.items) (P.Pipe.taken used.0) (P.Pipe.given used.1)) }
+    ensures causes { IfSome result.run.host (λ used. HasCauses
+        (record {
+          store_before = S.faults world.store;
+          store_now = S.faults result.world.store;
+          reading = P.Pipe.faults used.0;
+          ends = P.Pipe.ends used.0;
+          writing = P.Pipe.faults used.1;
+          wanted = result.run.wanted;
+        }) (reverse result.run.history.items)) }
     ensures started { MatchOption result.run.host (P.started result.world.spawner ≡ P.started world.spawner) (λ _.
         P.started result.world.spawner ≡ P.started world.spawner ++ command_words run.host run.stack run.project ∷ []) }
     ensures outcome { MatchOption result.run.host
@@ -314,10 +359,6 @@ fn up<R: Wait, S: Store, B: Drop, P: Spawner<Cover = S::Cover>, W: Drop, I: Drop
         project,
         host,
     } = run;
-    // The reader of the words lets no other name through.
-    if !is_scope(stack.as_str()) || !is_scope(project.as_str()) {
-        return refused(alloc, Outcome::OutOfMemory, world);
-    }
     let World {
         mut store,
         side,
@@ -381,6 +422,7 @@ pub fn engine<
     words: &[String],
     world: World<S, B, P, W, I, G>,
 ) -> Finished<S, B, P, W, I, G>
+    ensures fresh { IfSome result.run.host (λ _. IfSome (S.story world.store) (λ texts. texts ≡ [])) }
     ensures legal { MatchOption result.run.host (result.run.history.items ≡ []) (λ used.
         (run : Fixed) × IsRunOf (map string_bytes words.now) run × (IsLegalRun run (reverse result.run.history.items) (P.Pipe.faults used.1) result.run.wanted)) }
     ensures saved { MatchOption result.run.host (IsUntouched result.run.marks.items (S.story world.store) (S.story result.world.store)) (λ _.
@@ -391,6 +433,15 @@ pub fn engine<
         (record { faults = P.Pipe.faults used.0; ends = P.Pipe.ends used.0; wanted = result.run.wanted })
         (record { faults = P.Pipe.faults used.1; ends = 0; wanted = result.run.wanted })
         (reverse result.run.history.items) (P.Pipe.taken used.0) (P.Pipe.given used.1))) }
+    ensures causes { IfSome result.run.host (λ used. HasCauses
+        (record {
+          store_before = S.faults world.store;
+          store_now = S.faults result.world.store;
+          reading = P.Pipe.faults used.0;
+          ends = P.Pipe.ends used.0;
+          writing = P.Pipe.faults used.1;
+          wanted = result.run.wanted;
+        }) (reverse result.run.history.items)) }
     ensures started { MatchOption result.run.host (P.started result.world.spawner ≡ P.started world.spawner) (λ _.
         (run : Fixed) × IsRunOf (map string_bytes words.now) run × (P.started result.world.spawner ≡ P.started world.spawner ++ command_words (host_words (map string_bytes words.now)) run.stack run.project ∷ [])) }
     ensures outcome { MatchOption result.run.host

@@ -3,6 +3,7 @@ use Rattle.std.specs.Prelude.{ℕ, ◌&&◌, List, codes, Bool, if◌then◌else
 use Rattle.std.specs.Str.{is_utf8, bytes_eq}
 use Rattle.serde_json.specs.Data.{Data}
 use Rattle.serde_json.specs.Read.{read}
+use Rattle.pl_state.specs.Component.{plain_registration}
 use Rattle.pl_events.specs.declared.event.Request.{Request}
 use Rattle.pl_events.specs.declared.event.Request.TheVariants.{Register}
 use Rattle.pl_host_msg.specs.declared.word.HostWord.{HostWord}
@@ -52,7 +53,7 @@ register_of message = do
   kind ← plain_type (field (codes "type") message)
   name ← text (field (codes "name") message)
   parent ← optional_text (field (codes "parent") message)
-  if has_defaults message then Some (Register n (record { kind = kind; name = name; parent = parent })) else None
+  if has_defaults message then Some (Register n (plain_registration kind name parent)) else None
 
 -- the word that a message with this call spells
 abbrev pub word_called : List ℕ → Data → Option HostWord

@@ -98,7 +98,7 @@ impl Told<'_> {
         let parent = copy_text(alloc, self.parent)?;
         Ok(Request::Register {
             n: self.n,
-            told: Registration { kind, name, parent },
+            told: Registration::component(alloc, kind, name, parent),
         })
     }
 }

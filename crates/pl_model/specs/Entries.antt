@@ -1,10 +1,11 @@
 -- What the events record: entries, and the state of a history.
-use Rattle.std.specs.Prelude.{◌≡◌, ℕ, ◌==◌, Bool, true, false, not, if◌then◌else◌, Option, Some, None, List, [], ◌∷◌, ◌++◌, length, filter}
+use Rattle.std.specs.Prelude.{ℕ, ◌==◌, Bool, false, not, if◌then◌else◌, Option, Some, None, List, [], ◌∷◌, ◌++◌, length, filter}
 use Rattle.std.specs.List.{list_any}
 use Rattle.std.specs.Str.{bytes_eq}
 use Rattle.pl_state.specs.declared.goal.Goal.{Goal}
 use Rattle.pl_state.specs.declared.entry.Entry.{Entry}
-use Rattle.pl_state.specs.declared.entries.Snapshot.{Snapshot}
+use Rattle.pl_state.specs.declared.snapshot.Snapshot.{Snapshot}
+use Rattle.pl_state.specs.Component.{bare_state, component_entry}
 use Rattle.pl_events.specs.declared.event.Event.{Event}
 use Rattle.pl_events.specs.declared.event.What.{What}
 use Rattle.pl_events.specs.declared.event.What.TheVariants.{Told, HostGone, Kept, Posted, Stopped}
@@ -14,7 +15,7 @@ use Rattle.pl_model.specs.Requests.{goals_of, goal_at}
 
 -- the entry of a component's goal
 abbrev pub entry_of : Goal → Entry
-entry_of goal = record { urn = goal.urn; custom = false; kind = goal.kind; parent = goal.parent }
+entry_of goal = component_entry goal.urn goal.kind goal.parent
 
 -- the entry of a goal, if there is such a goal
 abbrev pub entry_if : Option Goal → List Entry
@@ -36,7 +37,7 @@ new_entries run (event ∷ past) = entries_after event.what (goals_of run past) 
 
 -- the state of a history
 abbrev pub state_of : Fixed → List Event → Snapshot
-state_of run history = record { stack = run.stack; entries = new_entries run history }
+state_of run history = bare_state run.stack (new_entries run history)
 
 -- whether an entry of this URN is recorded
 abbrev pub has_entry : List Entry → List ℕ → Bool

@@ -1,6 +1,6 @@
 -- What a run that is done leaves behind.
 use Rattle.std.specs.Prelude.{◌≡◌, List, map, reverse}
-use Rattle.pl_state.specs.declared.entries.Snapshot.{Snapshot}
+use Rattle.pl_state.specs.declared.snapshot.Snapshot.{Snapshot}
 use Rattle.pl_events.specs.declared.event.Event.{Event}
 use Rattle.pl_model.specs.Run.{Fixed}
 use Rattle.pl_model.specs.Requests.{goals_of}

@@ -1,5 +1,5 @@
 -- What was taken from the host's reading half, and what its writing half was given.
-use Rattle.std.specs.Prelude.{⊤, ◌≡◌, ◌⊎◌, ℕ, ◌<◌, ◌^◌, Bool, true, false, All, Option, Some, None, List, [], ◌∷◌, ◌++◌, length, IfSome}
+use Rattle.std.specs.Prelude.{◌≡◌, ◌⊎◌, ℕ, ◌<◌, ◌^◌, Bool, true, false, All, Option, Some, None, List, [], ◌∷◌, ◌++◌, IfSome}
 use Rattle.pl_world.specs.Counts.{Rose}
 use Rattle.pl_world.specs.Told.{Piece, bytes_of}
 use Rattle.pl_world.specs.Frames.{IsBody, frame_of, length_bytes, IsPartOfFrame, IsStartOfFrame}
@@ -99,13 +99,6 @@ HasAnswered run spelling half history given =
 pub record HostGave (run : Fixed) (spelling : Spelling) (half : Causes) (history : List Event) (pieces : List Piece) : Type 0 where
   pub uncovered : All (λ piece. piece.1 ≡ None) pieces
   pub answered : HasAnswered run spelling half history (bytes_of pieces)
-
--- each stop's cause: the counts of the store and of the writing half
-pub record StopCauses : Type 0 where
-  pub store_before : ℕ
-  pub store_now : ℕ
-  pub writing : ℕ
-  pub wanted : Bool
 
 -- the lines of both halves, where they are told
 pub record HostLines (run : Fixed) (spelling : Spelling) (reading writing : Causes) (history : List Event)

@@ -6,4 +6,5 @@ pub mod Due
 pub mod Legal
 pub mod Saves
 pub mod HostLines
+pub mod Causes
 pub mod Fulfilment

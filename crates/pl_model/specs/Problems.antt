@@ -1,5 +1,5 @@
 -- The problems of a history, and the outcome that the least one gives.
-use Rattle.std.specs.Prelude.{◌≡◌, ◌⊎◌, ℕ, Bool, true, false, ◌||◌, Option, Some, None, is_some, List, [], ◌∷◌, length}
+use Rattle.std.specs.Prelude.{ℕ, Bool, false, ◌||◌, Option, Some, None, is_some, List, [], ◌∷◌, length}
 use Rattle.pl_events.specs.declared.event.Event.{Event}
 use Rattle.pl_events.specs.declared.event.What.{What}
 use Rattle.pl_events.specs.declared.event.What.TheVariants.{Told, HostGone, Kept, Posted, Stopped}
@@ -7,9 +7,9 @@ use Rattle.pl_events.specs.declared.event.HostEnd.{HostEnd}
 use Rattle.pl_events.specs.declared.event.HostEnd.TheVariants as ended
 use Rattle.pl_events.specs.declared.event.Stop.{Stop}
 use Rattle.pl_events.specs.declared.event.Stop.TheVariants as stopped
-use Rattle.pl_decide.specs.declared.outcome.Child.TheVariants.{Host}
-use Rattle.pl_decide.specs.declared.outcome.Problem.{Problem}
-use Rattle.pl_decide.specs.declared.outcome.Problem.TheVariants as problem
+use Rattle.pl_decide.specs.declared.problem.Child.TheVariants.{Host}
+use Rattle.pl_decide.specs.declared.problem.Problem.{Problem}
+use Rattle.pl_decide.specs.declared.problem.Problem.TheVariants as problem
 use Rattle.pl_decide.specs.declared.outcome.Outcome.{Outcome}
 use Rattle.pl_decide.specs.declared.outcome.Outcome.TheVariants as outcome
 
@@ -42,15 +42,17 @@ abbrev pub has_problem : List Event → Bool
 has_problem [] = false
 has_problem (event ∷ past) = is_some (problem_of_event event.what) || has_problem past
 
--- the outcome that a problem at this position gives; want of memory stands after every other
+-- the outcome that a problem at this position gives: its own where it has one, and else that the run failed
+-- there; want of memory stands after every other
 abbrev pub outcome_of_problem : ℕ → Problem → Option Outcome
-outcome_of_problem at problem.MessageTooLong = Some (outcome.Failed at problem.MessageTooLong)
 outcome_of_problem at problem.StoreFault = Some outcome.StoreFault
+outcome_of_problem at problem.StartFault = Some outcome.StartFault
 outcome_of_problem at (problem.PipeFault child) = Some (outcome.PipeFault child)
 outcome_of_problem at (problem.ChildEnded child) = Some (outcome.ChildEnded child)
 outcome_of_problem at (problem.BadFrame child bytes) = Some (outcome.BadFrame child bytes)
 outcome_of_problem at problem.TooManyResources = Some outcome.TooManyResources
 outcome_of_problem at problem.NoMemory = None
+outcome_of_problem at trouble = Some (outcome.Failed at trouble)
 
 abbrev pub outcome_of_event : ℕ → Option Problem → Option Outcome
 outcome_of_event at None = None

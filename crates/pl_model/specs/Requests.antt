@@ -1,10 +1,11 @@
 -- Requests and the goals that they make.
-use Rattle.std.specs.Prelude.{◌≡◌, ℕ, ◌+◌, ◌==◌, Bool, true, false, not, nat_lt, ◌&&◌, ◌||◌, if◌then◌else◌, Option, Some, None, is_none, List, [], ◌∷◌, length, filter}
+use Rattle.std.specs.Prelude.{ℕ, ◌==◌, Bool, true, not, nat_lt, ◌&&◌, ◌||◌, if◌then◌else◌, Option, Some, None, is_none, List, [], ◌∷◌, length, filter}
 use Rattle.std.specs.List.{list_any}
 use Rattle.std.specs.Str.{bytes_eq}
 use Rattle.pl_urn.specs.Grammar.{child_text, child_fault}
 use Rattle.pl_state.specs.declared.goal.Registration.{Registration}
 use Rattle.pl_state.specs.declared.goal.Goal.{Goal}
+use Rattle.pl_state.specs.Component.{is_plain, plain_goal}
 use Rattle.pl_events.specs.declared.event.Event.{Event}
 use Rattle.pl_events.specs.declared.event.What.{What}
 use Rattle.pl_events.specs.declared.event.What.TheVariants.{Told, HostGone, Kept, Posted, Stopped}
@@ -31,11 +32,8 @@ last_number (event ∷ past) = number_after event.what (last_number past)
 
 -- the goal that a registration makes
 abbrev pub goal_for : Fixed → Registration → Goal
-goal_for run told = record {
-  urn = child_text told.parent run.stack run.project told.kind told.name;
-  kind = told.kind;
-  parent = told.parent;
-}
+goal_for run told =
+    plain_goal (child_text told.parent run.stack run.project told.kind told.name) told.kind told.parent
 
 abbrev pub goal_of : Fixed → Request → Goal
 goal_of run (Register n told) = goal_for run told
@@ -67,11 +65,11 @@ abbrev pub has_parent : List Goal → Option (List ℕ) → Bool
 has_parent goals None = true
 has_parent goals (Some urn) = has_goal goals urn
 
--- whether a registration may be accepted: its type and name make a URN, its parent is an earlier goal,
--- and no earlier goal has its URN
+-- whether a registration may be accepted: it is a component's without an option, its type and name make a
+-- URN, its parent is an earlier goal, and no earlier goal has its URN
 abbrev pub is_acceptable : Fixed → List Goal → Registration → Bool
 is_acceptable run goals told =
-    is_none (child_fault told.kind told.name)
+    is_plain told && is_none (child_fault told.kind told.name)
     && (has_parent goals told.parent && not (has_goal goals (goal_for run told).urn))
 
 -- whether a request may stand after this history: a problem halts every request, and nothing else is

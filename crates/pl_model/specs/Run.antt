@@ -1,9 +1,9 @@
 -- The fixed data of a run, and the spellings that its definitions leave to the message crates.
-use Rattle.std.specs.Prelude.{◌≡◌, ℕ, Bool, Option, List}
+use Rattle.std.specs.Prelude.{ℕ, Bool, Option, List}
 use Rattle.pl_events.specs.declared.event.Request.{Request}
 use Rattle.pl_events.specs.declared.event.Answer.{Answer}
 use Rattle.pl_world.specs.declared.frames.TheConstants.{MAX_BODY}
-use Rattle.pl_state.specs.declared.entries.Snapshot.{Snapshot}
+use Rattle.pl_state.specs.declared.snapshot.Snapshot.{Snapshot}
 
 -- the names of the run's stack and project; the state at the start has no entry
 pub record Fixed : Type 0 where

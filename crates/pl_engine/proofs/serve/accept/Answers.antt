@@ -46,9 +46,36 @@ record_goal-urn-requires-clause-idle g c = λ κs within.
     (idle-after (run_of c.args.journal.now) c.args.n c.args.told c.args.journal.now.history
     (IsFree-rest (run_of c.args.journal.now) c.args.journal.now c.args.writing.now.failed c.requires.rest c.requires.free))
 
+pub post-requires-clause-due : goal.post-requires-clause-due
+post-requires-clause-due g c = λ κs within.
+    let same1 = run_same (run_of c.args.journal.now) c.tell.new.self c.in-Ok.ensures.consistent in
+    let consistent2 = subst (λ (r : Fixed). Consistent r c.record_goal-urn.new.journal) same1 c.record_goal-urn.ensures.consistent in
+    let same2 = run_same (run_of c.args.journal.now) c.record_goal-urn.new.journal consistent2 in
+    let awaited = IsAwaited-recorded (run_of c.args.journal.now) c.args.n c.args.told c.args.journal.now.history c.args.placed.urn c.record_goal-urn.result c.record_goal-urn.new.journal.history
+    (IsFree-rest (run_of c.args.journal.now) c.args.journal.now c.args.writing.now.failed c.requires.rest c.requires.free)
+    c.requires.placed.urn
+    (subst (λ (h : List Event). RecordedAs c.args.placed.urn c.record_goal-urn.result (length (new_entries (run_of c.args.journal.now) h)) h c.record_goal-urn.new.journal.history)
+    c.in-Ok.ensures.told
+    (subst (λ (es : List Entry). RecordedAs c.args.placed.urn c.record_goal-urn.result (length es) c.tell.new.self.history c.record_goal-urn.new.journal.history)
+    c.in-Ok.ensures.consistent.entries c.record_goal-urn.ensures.recorded)) in
+    subst (λ (r : Fixed). is_post_due r c.record_goal-urn.new.journal.history c.args.n ≡ true) (sym same2) awaited.due
+
+pub post-requires-clause-result : goal.post-requires-clause-result
+post-requires-clause-result g c = λ κs within.
+    let same1 = run_same (run_of c.args.journal.now) c.tell.new.self c.in-Ok.ensures.consistent in
+    let consistent2 = subst (λ (r : Fixed). Consistent r c.record_goal-urn.new.journal) same1 c.record_goal-urn.ensures.consistent in
+    let same2 = run_same (run_of c.args.journal.now) c.record_goal-urn.new.journal consistent2 in
+    let awaited = IsAwaited-recorded (run_of c.args.journal.now) c.args.n c.args.told c.args.journal.now.history c.args.placed.urn c.record_goal-urn.result c.record_goal-urn.new.journal.history
+    (IsFree-rest (run_of c.args.journal.now) c.args.journal.now c.args.writing.now.failed c.requires.rest c.requires.free)
+    c.requires.placed.urn
+    (subst (λ (h : List Event). RecordedAs c.args.placed.urn c.record_goal-urn.result (length (new_entries (run_of c.args.journal.now) h)) h c.record_goal-urn.new.journal.history)
+    c.in-Ok.ensures.told
+    (subst (λ (es : List Entry). RecordedAs c.args.placed.urn c.record_goal-urn.result (length es) c.tell.new.self.history c.record_goal-urn.new.journal.history)
+    c.in-Ok.ensures.consistent.entries c.record_goal-urn.ensures.recorded)) in
+    subst (λ (r : Fixed). option_map urn_of (result_of r c.record_goal-urn.new.journal.history c.args.n) ≡ c.record_goal-urn.result) (sym same2) awaited.answer
+
 pub returns-in-Ok-clause-goes : goal.returns-in-Ok-clause-goes
 returns-in-Ok-clause-goes g c =
-    let run = run_of c.args.journal.now in
     let same1 = run_same (run_of c.args.journal.now) c.tell.new.self c.in-Ok.ensures.consistent in
     let consistent2 = subst (λ (r : Fixed). Consistent r c.record_goal-urn.new.journal) same1 c.record_goal-urn.ensures.consistent in
     let same2 = run_same (run_of c.args.journal.now) c.record_goal-urn.new.journal consistent2 in

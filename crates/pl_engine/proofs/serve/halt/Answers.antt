@@ -3,7 +3,7 @@ use Rattle.pl_events.specs.declared.event.Event.{Event}
 use Rattle.pl_events.specs.declared.event.HostEnd.TheVariants.{NoMemory}
 use Rattle.pl_model.specs.Run.{Fixed}
 use Rattle.pl_engine.specs.Journal.{Consistent, end_event, run_of, told_event}
-use Rattle.pl_engine.specs.Answered.{Answers}
+use Rattle.pl_engine.specs.Answered.{Answers, KeepsWritten}
 use Rattle.pl_engine.specs.declared.journal.Journal.{Journal}
 use Rattle.pl_engine.proofs.Accepting.{Adds-after, Adds-answers, AtRest-answered, IsAwaited-halted}
 use Rattle.pl_engine.proofs.Answering.{Written-step}
@@ -19,6 +19,15 @@ returns-then-not-writing-clause-goes g c =
     (subst (λ (h : List Event). Answers c.args.n c.post.new.writing.failed h c.post.new.journal.history) c.in-Ok.ensures.told c.post.ensures.answered)
     (subst (λ (r : Fixed). Consistent r c.post.new.journal) (run_same (run_of c.args.journal.now) c.tell.new.self c.in-Ok.ensures.consistent) c.post.ensures.consistent)
     c.post.ensures.failing
+
+pub returns-then-not-writing-clause-written : goal.returns-then-not-writing-clause-written
+returns-then-not-writing-clause-written g c = λ h.
+    let told = Written-step (run_of c.args.journal.now) (g.Q.Pipe.faults c.args.writing.now.half) (g.Q.Pipe.faults c.args.writing.now.half)
+    c.args.journal.now.wanted c.tell.new.self.wanted c.args.writing.now.failed c.args.journal.now.history c.tell.new.self.history (g.Q.Pipe.given c.args.writing.now.half)
+    (omega arith) (λ w. c.in-Ok.ensures.wanted ∙ w) (told_event c.args.n c.args.told ∷ [], c.in-Ok.ensures.told, refl) h in
+    subst (λ (r : Fixed). KeepsWritten r c.tell.new.self c.post.new.journal c.args.writing.now.failed c.post.new.writing.failed
+    (g.Q.Pipe.faults c.args.writing.now.half) (g.Q.Pipe.faults c.post.new.writing.half) (g.Q.Pipe.given c.args.writing.now.half) (g.Q.Pipe.given c.post.new.writing.half))
+    (run_same (run_of c.args.journal.now) c.tell.new.self c.in-Ok.ensures.consistent) c.post.ensures.written told
 
 pub returns-else-not-writing-clause-written : goal.returns-else-not-writing-clause-written
 returns-else-not-writing-clause-written g c =

@@ -13,6 +13,7 @@ use Rattle.pl_engine.specs.Spelled.{host_spelling}
 use Rattle.pl_engine.specs.Journal.{end_event, run_of}
 use Rattle.pl_engine.proofs.Accepting.{Adds-ended}
 use Rattle.pl_engine.proofs.Answering.{Written-step, is_unposted}
+use Rattle.pl_engine.proofs.Causing.{EndCaused-ended, EndCaused-free, EndCaused-registered}
 use Rattle.pl_engine.proofs.Hearing.{TakenNow-ended, TakenNow-registered, TakenNow-success, within-heard}
 use Rattle.pl_engine.proofs.Storing.{Stored-step, or_keeps}
 use Rattle.pl_engine.proofs.serve.step.Goals as goal
@@ -71,3 +72,22 @@ returns-in-Request-clause-taken g c = λ took.
     (c.in-Ok.ensures.heard.word
     ∙ ap (λ w. Some w) (ap (λ (h : Heard). h.word) c.in-Ok.field-0-is ∙ c.in-Request.is ∙ ap (λ (r : Request). Asks r) (sym c.parts-n.ensures)))
     c.in-Ok.ensures.heard.taken c.register.ensures.did
+
+pub returns-in-Err-clause-end_caused : goal.returns-in-Err-clause-end_caused
+returns-in-Err-clause-end_caused g c = λ _.
+    EndCaused-ended c.in-Err.end c.args.journal.now.history c.end_messages.new.journal.history c.end_messages.new.journal.wanted
+    (g.Q.Pipe.faults c.args.reading.now) (g.Q.Pipe.faults c.hear.new.reading) (g.Q.Pipe.ends c.args.reading.now) (g.Q.Pipe.ends c.hear.new.reading)
+    c.requires.rest.host_open c.end_messages.ensures.ended c.in-Err.ensures.faulted c.in-Err.ensures.at_end
+
+pub returns-in-Success-clause-end_caused : goal.returns-in-Success-clause-end_caused
+returns-in-Success-clause-end_caused g c = λ _.
+    EndCaused-free Success c.args.journal.now.history c.end_host.new.self.history
+    (g.Q.Pipe.faults c.hear.new.reading) (g.Q.Pipe.ends c.hear.new.reading)
+    c.requires.rest.host_open c.end_host.ensures.ended refl refl
+
+pub returns-in-Request-clause-end_caused : goal.returns-in-Request-clause-end_caused
+returns-in-Request-clause-end_caused g c =
+    EndCaused-registered c.register.result (Register c.parts-n.result.0 c.parts-n.result.1) c.in-Ok.field-0.body (run_of c.args.journal.now)
+    c.args.journal.now c.register.new.journal c.register.new.writing.failed
+    (g.Q.Pipe.faults c.hear.new.reading) (g.Q.Pipe.ends c.hear.new.reading)
+    c.requires.rest.host_open c.register.ensures.did

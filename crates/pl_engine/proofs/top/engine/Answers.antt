@@ -1,4 +1,5 @@
 use Rattle.std.proofs.Common.{◌≡◌, ℕ, List, Some, map, string_bytes}
+use Rattle.pl_urn.specs.Grammar.{IsScope}
 use Rattle.pl_cli.specs.declared.command.RunWords.{RunWords}
 use Rattle.pl_cli.specs.declared.table.OptionName.TheVariants.{Stack, Project}
 use Rattle.pl_cli.specs.Place.{given_value}
@@ -17,3 +18,11 @@ returns-in-Ok-clause-started g c =
     })
     (if_up c.in-Ok.command c.up_words.result (λ (run : RunWords). run.host ≡ host_words (map string_bytes c.args.words.now)) c.up_words.ensures c.in-Ok.ensures.host)
     c.up.ensures.started
+
+pub up-requires-clause-stack : goal.up-requires-clause-stack
+up-requires-clause-stack g c κs within =
+    if_up c.in-Ok.command c.up_words.result (λ (run : RunWords). IsScope run.stack) c.up_words.ensures c.in-Ok.ensures.stack_scope
+
+pub up-requires-clause-project : goal.up-requires-clause-project
+up-requires-clause-project g c κs within =
+    if_up c.in-Ok.command c.up_words.result (λ (run : RunWords). IsScope run.project) c.up_words.ensures c.in-Ok.ensures.project_scope
