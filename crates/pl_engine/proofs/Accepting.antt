@@ -1,10 +1,9 @@
 -- What is due when a request was told, and how a run stands when it was worked on.
-use Rattle.std.proofs.Common.{◌≡◌, ◌⊎◌, ℕ, ◌+◌, ◌<◌, ◌≤◌, Bool, true, false, ◌||◌, ◌&&◌, not, is_none, is_some, List, [], ◌∷◌, ◌++◌, length, map, reverse, filter, Option, Some, None, option_map, refl, sym, ◌∙◌, ap, subst, inl, inr, arith, nat_lt, ◌==◌, append_assoc}
-use Rattle.std.proofs.lemmas.Grind.{common_steps}
+use Rattle.std.proofs.Common.{◌≡◌, ℕ, ◌<◌, ◌≤◌, Bool, true, false, ◌||◌, ◌&&◌, not, is_none, is_some, List, [], ◌∷◌, ◌++◌, length, map, reverse, filter, Option, Some, None, option_map, refl, sym, ◌∙◌, ap, subst, inl, inr, arith, nat_lt, ◌==◌, append_assoc}
 use Rattle.std.proofs.lemmas.Bool.Decides.{nat_tests}
-use Rattle.std.proofs.lemmas.List.{append-nil, length-map, length-reverse, map-append, reverse-append}
+use Rattle.std.proofs.lemmas.List.{length-map, length-reverse, map-append, reverse-append}
 use Rattle.std.proofs.lemmas.List.Folds.{list_all-append, list_any-append}
-use Rattle.std.specs.List.{list_all, list_any}
+use Rattle.std.specs.List.{list_any}
 use Rattle.std.specs.Str.{bytes_eq}
 use Rattle.pl_state.specs.declared.goal.Goal.{Goal}
 use Rattle.pl_state.specs.declared.goal.Registration.{Registration}
@@ -15,7 +14,7 @@ use Rattle.pl_events.specs.declared.event.Stop.{Stop}
 use Rattle.pl_state.specs.Component.{is_plain}
 use Rattle.pl_model.specs.Run.{Fixed, most_resources}
 use Rattle.pl_model.specs.Problems.{has_problem}
-use Rattle.pl_model.specs.Requests.{Waiting, goal_at, goal_for, goals_of, has_goal, has_parent, is_acceptable, last_number, may_be_next, waiting_of}
+use Rattle.pl_model.specs.Requests.{Waiting, goal_at, goal_for, goals_of, has_goal, has_parent, is_acceptable, is_registration, last_number, may_be_next, number_of, waiting_of}
 use Rattle.pl_events.specs.declared.event.Request.TheVariants.{Register}
 use Rattle.pl_urn.specs.Grammar.{child_fault}
 use Rattle.pl_model.specs.Saves.{must_save}
@@ -30,9 +29,8 @@ use Rattle.pl_events.specs.declared.event.HostEnd.{HostEnd}
 use Rattle.pl_events.specs.declared.event.HostEnd.TheVariants.{BadFrame, NoMemory}
 use Rattle.pl_model.specs.Problems.{problem_of_end}
 use Rattle.pl_engine.specs.Judged.{is_placeable}
-use Rattle.pl_engine.specs.Kept.{KeptIn}
 use Rattle.pl_engine.specs.Stored.{Adds}
-use Rattle.pl_engine.specs.Answered.{Answers, Gives, Stops, urn_of}
+use Rattle.pl_engine.specs.Answered.{Answers, Stops, urn_of}
 use Rattle.pl_engine.specs.Running.{AllRecorded, AtRest, EndedBy, Goes, Over, RecordedAs, Registered, is_work}
 use Rattle.pl_engine.specs.declared.journal.Journal.{Journal}
 use Rattle.pl_engine.proofs.Resting.{NothingDue-told, entry_if-told, goal_at-told, goals-told, is_post_due-problem, is_post_due-recorded, is_ready-told, result-halted, result-recorded, result-stopped, same_number, unrecorded-told, waiting-told}
@@ -306,6 +304,11 @@ pub not_next-low : (run : Fixed) (n : ℕ) (told : Registration) (journal : Jour
 not_next-low run n told journal consistent low =
     let lower : nat_lt (last_number journal.history) n ≡ false = rw (sym consistent.last) (grind (arith, nat_tests)) in
     rw lower refl
+
+-- a request that is no registration may not come next
+pub not_next-other : (run : Fixed) (past : List Event) (request : Request) → is_registration request ≡ false → may_be_next run past request ≡ false
+not_next-other run past (Register n told) other = absurd (cc)
+not_next-other run past request other = and_false (nat_lt (last_number past) (number_of request))
 
 pub next-halted : (run : Fixed) (n : ℕ) (told : Registration) (journal : Journal)
     → Consistent run journal → journal.halted ≡ true → journal.last < n → may_be_next run journal.history (Register n told) ≡ true

@@ -1,17 +1,15 @@
 -- How answers and the writing half stand to a history that grows.
-use Rattle.std.proofs.Common.{◌≡◌, ◌⊎◌, ℕ, ◌+◌, ◌<◌, ◌≤◌, Bool, true, false, ◌||◌, ◌&&◌, not, is_none, is_some, All, List, [], ◌∷◌, ◌++◌, length, take, drop, Option, Some, None, option_map, Result, Ok, Err, IfOk, IfSome, refl, sym, ◌∙◌, ap, subst, inl, inr, arith, nat_lt, append_assoc, codes, if◌then◌else◌}
-use Rattle.std.proofs.lemmas.Grind.{common_steps}
+use Rattle.std.proofs.Common.{◌≡◌, ◌⊎◌, ℕ, ◌<◌, ◌≤◌, Bool, true, false, ◌&&◌, List, [], ◌∷◌, ◌++◌, length, Option, Some, None, option_map, Result, Ok, Err, IfOk, IfSome, refl, sym, ◌∙◌, ap, subst, inl, inr, arith, append_assoc, if◌then◌else◌}
 use Rattle.std.proofs.lemmas.Bool.Decides.{nat_tests}
-use Rattle.std.proofs.lemmas.List.{append-nil, take-append-drop}
 use Rattle.std.proofs.lemmas.List.Elements.{All-append}
 use Rattle.std.specs.List.{list_all}
 use Rattle.pl_value.specs.declared.memory.OutOfMemory.{OutOfMemory}
 use Rattle.pl_state.specs.declared.goal.Goal.{Goal}
 use Rattle.pl_events.specs.declared.event.Answer.{Answer}
-use Rattle.pl_events.specs.declared.event.Answer.TheVariants.{Registered, Refused}
+use Rattle.pl_events.specs.declared.event.Answer.TheVariants.{Registered}
 use Rattle.pl_events.specs.declared.event.Event.{Event}
 use Rattle.pl_events.specs.declared.event.What.{What}
-use Rattle.pl_events.specs.declared.event.What.TheVariants.{Told, HostGone, Kept, Posted, Stopped}
+use Rattle.pl_events.specs.declared.event.What.TheVariants.{Posted}
 use Rattle.pl_events.specs.declared.event.Stop.{Stop}
 use Rattle.pl_host_msg.specs.Answer.{answer_text, IfTooLong}
 use Rattle.pl_host_msg.specs.declared.answer.MsgOut.{MsgOut}
@@ -22,11 +20,11 @@ use Rattle.pl_world.specs.declared.trouble.Trouble.{Trouble}
 use Rattle.pl_world.specs.declared.trouble.Trouble.TheVariants.{Failed}
 use Rattle.pl_world.specs.Counts.{Rose}
 use Rattle.pl_world.specs.Frames.{IsBody, frame_of}
-use Rattle.pl_world.specs.Told.{Bears, Gave, GavePart, Grew, Piece, bytes_of}
+use Rattle.pl_world.specs.Told.{Bears, Gave, Piece, bytes_of}
 use Rattle.pl_model.specs.Run.{Fixed, longest_body}
 use Rattle.pl_model.specs.Problems.{has_problem}
 use Rattle.pl_model.specs.Due.{answer_for, answer_of, halted, is_post_due, is_too_long, result_of}
-use Rattle.pl_model.specs.HostLines.{Causes, HasAnswered, HostGave, IsOneMore, answers_after, answers_of}
+use Rattle.pl_model.specs.HostLines.{HostGave, answers_after, answers_of}
 use Rattle.pl_engine.specs.Spelled.{host_spelling}
 use Rattle.pl_engine.specs.Journal.{posted_event, stop_event, stopped_by}
 use Rattle.pl_engine.specs.Stored.{Adds}
@@ -47,9 +45,9 @@ IsBody-if n answer (Ok body) is fits = IsBody-answer n answer body is fits
 IsBody-if n answer (Err _) is fits = tt
 
 -- the answer of a request with a result is its URN
-pub answer_for-urn : (result : Option Goal) (urn : List ℕ) → option_map urn_of result ≡ Some urn → answer_for result ≡ Registered urn
+pub answer_for-urn : (result : Option Goal) (urn : List ℕ) → option_map urn_of result ≡ Some urn → answer_for result ≡ Registered urn None []
 answer_for-urn None urn h = absurd (cc)
-answer_for-urn (Some goal) urn h = ap (λ (u : List ℕ). Registered u) (let e : goal.urn ≡ urn = cc in e)
+answer_for-urn (Some goal) urn h = ap (λ (u : List ℕ). Registered u None []) (let e : goal.urn ≡ urn = cc in e)
 
 pub answer_for-none : (result : Option Goal) → option_map urn_of result ≡ None → answer_for result ≡ halted
 answer_for-none None h = refl
@@ -66,19 +64,19 @@ chosen true too_long answer is = rw is refl
 chosen false too_long answer is = refl
 
 pub answer_of-fits : (run : Fixed) (history : List Event) (n : ℕ) (urn : List ℕ)
-    → option_map urn_of (result_of run history n) ≡ Some urn → length (answer_text n (Registered urn)) ≤ longest_body
-    → answer_of run host_spelling history n ≡ Registered urn
+    → option_map urn_of (result_of run history n) ≡ Some urn → length (answer_text n (Registered urn None [])) ≤ longest_body
+    → answer_of run host_spelling history n ≡ Registered urn None []
 answer_of-fits run history n urn result fits =
     let is = answer_for-urn (result_of run history n) urn result in
     chosen (has_problem history) (is_too_long host_spelling n (answer_for (result_of run history n))) (answer_for (result_of run history n))
-    (ap (λ (a : Answer). is_too_long host_spelling n a) is ∙ short n (Registered urn) fits)
+    (ap (λ (a : Answer). is_too_long host_spelling n a) is ∙ short n (Registered urn None []) fits)
     ∙ is
 
 pub too_long-result : (run : Fixed) (history : List Event) (n : ℕ) (urn : List ℕ)
-    → option_map urn_of (result_of run history n) ≡ Some urn → longest_body < length (answer_text n (Registered urn))
+    → option_map urn_of (result_of run history n) ≡ Some urn → longest_body < length (answer_text n (Registered urn None []))
     → is_too_long host_spelling n (answer_for (result_of run history n)) ≡ true
 too_long-result run history n urn result over =
-    ap (λ (a : Answer). is_too_long host_spelling n a) (answer_for-urn (result_of run history n) urn result) ∙ long n (Registered urn) over
+    ap (λ (a : Answer). is_too_long host_spelling n a) (answer_for-urn (result_of run history n) urn result) ∙ long n (Registered urn None []) over
 
 halted_both : (problem too_long : Bool) (answer : Answer) → problem ≡ true → too_long ≡ true → (if problem && too_long then halted else answer) ≡ halted
 halted_both problem too_long answer p t = rw (p, t) refl
@@ -110,22 +108,16 @@ bytes_of-append (piece ∷ first) second =
 
 -- whether an event is no post
 abbrev pub is_unposted : What → Bool
-is_unposted (Told _) = true
-is_unposted (HostGone _) = true
-is_unposted (Kept _) = true
 is_unposted (Posted _) = false
-is_unposted (Stopped _) = true
+is_unposted _ = true
 
 answers_of-one : (run : Fixed) (event : Event) (past : List Event) → is_unposted event.what ≡ true
     → answers_of run host_spelling (event ∷ past) ≡ answers_of run host_spelling past
 answers_of-one run event past un = same event.what un
   where
     same : (what : What) → is_unposted what ≡ true → answers_after run host_spelling what past (answers_of run host_spelling past) ≡ answers_of run host_spelling past
-    same (Told _) un = refl
-    same (HostGone _) un = refl
-    same (Kept _) un = refl
     same (Posted n) un = absurd (cc)
-    same (Stopped _) un = refl
+    same _ un = refl
 
 answers_of-some : (run : Fixed) (events past : List Event) → list_all (λ event. is_unposted event.what) events ≡ true
     → answers_of run host_spelling (events ++ past) ≡ answers_of run host_spelling past

@@ -1,13 +1,13 @@
 -- How the causes of stops and of the host's end stand to a history that grows.
-use Rattle.std.proofs.Common.{◌≡◌, ◌⊎◌, ℕ, ◌≤◌, Bool, true, false, ◌||◌, List, [], ◌∷◌, refl, sym, ◌∙◌, ap, subst, inl, inr, arith}
+use Rattle.std.proofs.Common.{◌≡◌, ℕ, ◌≤◌, Bool, true, false, ◌||◌, List, [], ◌∷◌, refl, subst, inl, inr, arith}
 use Rattle.std.proofs.lemmas.Grind.{common_steps}
 use Rattle.pl_events.specs.Closing.{has_host_end, is_host_end}
 use Rattle.pl_events.specs.declared.event.Event.{Event}
 use Rattle.pl_events.specs.declared.event.What.{What}
-use Rattle.pl_events.specs.declared.event.What.TheVariants.{Told, HostGone, Kept, Posted, Stopped}
+use Rattle.pl_events.specs.declared.event.What.TheVariants.{HostGone}
 use Rattle.pl_events.specs.declared.event.Request.{Request}
 use Rattle.pl_events.specs.declared.event.HostEnd.{HostEnd}
-use Rattle.pl_events.specs.declared.event.HostEnd.TheVariants.{Success, Ended, PipeFault, BadFrame, NoMemory}
+use Rattle.pl_events.specs.declared.event.HostEnd.TheVariants.{Ended, PipeFault, BadFrame, NoMemory}
 use Rattle.pl_world.specs.Counts.{Rose}
 use Rattle.pl_model.specs.Run.{Fixed}
 use Rattle.pl_model.specs.Causes.{has_end_by, is_end_by, is_output_end, is_read_fault}
@@ -28,11 +28,8 @@ NewlyFor-then first false last a b c ab bc h k = λ before now. Rose-earlier a b
 no_end : (kind : HostEnd → Bool) (what : What) (past : List Event)
     → (has_host_end past ≡ false → has_end_by kind past ≡ false)
     → (is_host_end what || has_host_end past) ≡ false → (is_end_by kind what || has_end_by kind past) ≡ false
-no_end kind (Told _) past h going = h going
 no_end kind (HostGone _) past h going = absurd (cc)
-no_end kind (Kept _) past h going = h going
-no_end kind (Posted _) past h going = h going
-no_end kind (Stopped _) past h going = h going
+no_end kind _ past h going = h going
 
 pub has_end_by-going : (kind : HostEnd → Bool) (history : List Event) → has_host_end history ≡ false → has_end_by kind history ≡ false
 has_end_by-going kind [] going = refl
@@ -60,18 +57,12 @@ EndCaused-free end past new faults ends going is no_fault no_output =
     EndCaused-by end past new faults ends going is (λ has. absurd (cc)) (λ has. absurd (cc))
 
 faulted : (end : HostEnd) (P : Type 0) → IfFaulted end P → is_read_fault end ≡ true → P
-faulted Success P h is = absurd (cc)
-faulted Ended P h is = absurd (cc)
 faulted PipeFault P h is = h
-faulted (BadFrame _) P h is = absurd (cc)
-faulted NoMemory P h is = absurd (cc)
+faulted _ P h is = absurd (cc)
 
 ended_so : (end : HostEnd) (P : Type 0) → IfEnded end P → is_output_end end ≡ true → P
-ended_so Success P h is = absurd (cc)
 ended_so Ended P h is = h
-ended_so PipeFault P h is = absurd (cc)
-ended_so (BadFrame _) P h is = absurd (cc)
-ended_so NoMemory P h is = absurd (cc)
+ended_so _ P h is = absurd (cc)
 
 -- the end that was heard, or want of memory in its place
 pub EndCaused-ended : (end : HostEnd) (past new : List Event) (wanted : Bool) (faults faults' ends ends' : ℕ) → has_host_end past ≡ false

@@ -1,5 +1,5 @@
 -- How a run begins and what it leaves when the host's messages have ended.
-use Rattle.std.proofs.Common.{◌≡◌, ◌⊎◌, ℕ, ◌+◌, ◌<◌, ◌≤◌, Bool, true, false, ◌||◌, ◌&&◌, not, is_some, All, AllPairs, List, [], ◌∷◌, ◌++◌, length, Option, Some, None, option_map, IfSome, refl, sym, ◌∙◌, ap, subst, inl, inr, arith}
+use Rattle.std.proofs.Common.{◌≡◌, ℕ, Bool, true, false, ◌||◌, is_some, List, [], ◌∷◌, length, Option, Some, None, IfSome, refl, sym, ◌∙◌, ap, subst, inl, inr, arith}
 use Rattle.std.proofs.lemmas.Grind.{common_steps}
 use Rattle.std.proofs.lemmas.List.{append-nil}
 use Rattle.pl_decide.specs.declared.outcome.Outcome.{Outcome}
@@ -8,18 +8,16 @@ use Rattle.pl_decide.specs.declared.problem.Problem.{Problem}
 use Rattle.pl_decide.specs.declared.problem.Problem.TheVariants as problem
 use Rattle.pl_events.specs.Closing.{has_stop}
 use Rattle.pl_events.specs.declared.event.Event.{Event}
-use Rattle.pl_world.specs.Counts.{Rose}
 use Rattle.pl_world.specs.Told.{Grew, Piece}
-use Rattle.pl_model.specs.Run.{Fixed, Spelling}
+use Rattle.pl_model.specs.Run.{Fixed}
 use Rattle.pl_model.specs.Problems.{first_of, has_problem, least_outcome, outcome_of_event, outcome_of_problem, problem_of_event}
 use Rattle.pl_model.specs.Requests.{waiting_of}
-use Rattle.pl_model.specs.Entries.{state_of, unrecorded_of}
+use Rattle.pl_model.specs.Entries.{unrecorded_of}
 use Rattle.pl_model.specs.HostLines.{HostGave}
 use Rattle.pl_engine.specs.Spelled.{host_spelling}
-use Rattle.pl_engine.specs.Journal.{Consistent}
-use Rattle.pl_engine.specs.Stored.{IsComplete, IsKeptUp, Stored}
+use Rattle.pl_engine.specs.Stored.{IsKeptUp, Stored}
 use Rattle.pl_engine.specs.Answered.{IsAnswered, Taken, Written}
-use Rattle.pl_engine.specs.Running.{AtRest, Over}
+use Rattle.pl_engine.specs.Running.{Over}
 use Rattle.pl_engine.specs.Headline.{IsDone, IsFinal, IsLegalRun, IsOutcome}
 use Rattle.pl_engine.specs.declared.journal.Journal.{Journal}
 use Rattle.pl_engine.proofs.Storing.{IsKeptUp-from_complete}

@@ -1,14 +1,14 @@
 -- What was taken from the host stands to the history as the definitions say.
-use Rattle.std.proofs.Common.{◌≡◌, ◌⊎◌, ℕ, ◌+◌, ◌<◌, ◌≤◌, ◌^◌, Bool, true, false, ◌||◌, ◌&&◌, not, List, [], ◌∷◌, ◌++◌, Option, Some, None, option_map, option_and_then, IfSome, refl, sym, ◌∙◌, ap, subst, inl, inr, arith}
+use Rattle.std.proofs.Common.{◌≡◌, ℕ, ◌≤◌, ◌^◌, Bool, true, false, List, [], ◌∷◌, ◌++◌, Option, Some, None, option_and_then, IfSome, refl, sym, ◌∙◌, ap, subst, inl, inr, arith}
 use Rattle.std.specs.List.{list_all}
 use Rattle.pl_state.specs.declared.goal.Registration.{Registration}
 use Rattle.pl_events.specs.declared.event.Event.{Event}
 use Rattle.pl_events.specs.declared.event.What.{What}
-use Rattle.pl_events.specs.declared.event.What.TheVariants.{Told, HostGone, Kept, Posted, Stopped}
+use Rattle.pl_events.specs.declared.event.What.TheVariants.{Told, HostGone}
 use Rattle.pl_events.specs.declared.event.Request.{Request}
 use Rattle.pl_events.specs.declared.event.Request.TheVariants.{Register}
 use Rattle.pl_events.specs.declared.event.HostEnd.{HostEnd}
-use Rattle.pl_events.specs.declared.event.HostEnd.TheVariants.{Success, Ended, PipeFault, BadFrame, NoMemory}
+use Rattle.pl_events.specs.declared.event.HostEnd.TheVariants.{Success, Error, Ended, PipeFault, BadFrame, NoMemory}
 use Rattle.pl_host_msg.specs.declared.word.HostWord.{HostWord}
 use Rattle.pl_host_msg.specs.declared.word.HostWord.TheVariants.{Request as Asks, Success as Done}
 use Rattle.pl_host_msg.specs.Word.{word_of}
@@ -18,10 +18,9 @@ use Rattle.pl_world.specs.Told.{Grew}
 use Rattle.pl_world.specs.Frames.{IsBody, frame_of}
 use Rattle.pl_model.specs.Run.{Fixed}
 use Rattle.pl_model.specs.Requests.{may_be_next}
-use Rattle.pl_model.specs.HostLines.{Causes, EndAdds, HostTook, IsNoMessage, RequestAdds, TookAfter}
+use Rattle.pl_model.specs.HostLines.{Causes, EndAdds, HostTook, IsNoMessage, TookAfter}
 use Rattle.pl_engine.specs.Spelled.{host_spelling, is_success_word, request_of_word}
 use Rattle.pl_engine.specs.Journal.{end_event}
-use Rattle.pl_model.specs.Causes.{is_want_end}
 use Rattle.pl_engine.specs.Heard.{EndHeard, IfEnded, IfFaulted}
 use Rattle.pl_engine.specs.Answered.{Taken}
 use Rattle.pl_engine.specs.Stored.{Adds}
@@ -78,6 +77,7 @@ pub TakenNow-ended : (run : Fixed) (end : HostEnd) (old new : List Event) (taken
     → Taken run old taken → EndHeard end (Grew taken taken') → IfFaulted end (Rose faults faults') → IfEnded end (Rose ends ends')
     → EndedBy end old new wanted → TakenNow false run new wanted taken' faults' ends'
 TakenNow-ended run Success old new taken taken' faults faults' ends ends' wanted took heard faulted ended by = absurd heard
+TakenNow-ended run (Error _) old new taken taken' faults faults' ends ends' wanted took heard faulted ended by = absurd heard
 TakenNow-ended run Ended old new taken taken' faults faults' ends ends' wanted took (added, part, grew) faulted ended (inl (is, _)) =
     took-end run _ old new taken taken' added Ended is took grew (rose_zero ends ends' ended, part)
 TakenNow-ended run Ended old new taken taken' faults faults' ends ends' wanted took (added, part, grew) faulted ended (inr (is, want)) =
@@ -114,9 +114,7 @@ took-work run half event past taken work h = by event.what work
     by : (what : What) → is_work what ≡ true → TookAfter run host_spelling half what past (HostTook run host_spelling half past) taken
     by (Told _) work = absurd (cc)
     by (HostGone _) work = absurd (cc)
-    by (Kept _) work = h
-    by (Posted _) work = h
-    by (Stopped _) work = h
+    by _ work = h
 
 took-works : (run : Fixed) (half : Causes) (events past : List Event) (taken : List ℕ) → list_all (λ event. is_work event.what) events ≡ true
     → HostTook run host_spelling half past taken → HostTook run host_spelling half (events ++ past) taken

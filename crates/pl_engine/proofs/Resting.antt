@@ -1,21 +1,15 @@
 -- What is due after a request is told, and what is left when it was worked on.
-use Rattle.std.proofs.Common.{◌≡◌, ◌⊎◌, ℕ, ◌+◌, ◌-◌, ◌<◌, ◌≤◌, Bool, true, false, ◌||◌, ◌&&◌, not, is_none, is_some, List, [], ◌∷◌, ◌++◌, length, map, reverse, Option, Some, None, refl, sym, ◌∙◌, ap, subst, inl, inr, arith, ◌==◌, nat_lt}
-use Rattle.std.proofs.lemmas.Grind.{common_steps}
+use Rattle.std.proofs.Common.{◌≡◌, ℕ, Bool, true, false, ◌||◌, ◌&&◌, List, [], ◌∷◌, length, Option, Some, None, refl, arith, ◌==◌, nat_lt}
 use Rattle.std.proofs.lemmas.Bool.Decides.{nat_tests}
-use Rattle.std.proofs.lemmas.List.{length-map, length-reverse}
-use Rattle.std.specs.List.{list_any}
-use Rattle.std.specs.Str.{bytes_eq}
 use Rattle.pl_state.specs.declared.goal.Goal.{Goal}
 use Rattle.pl_state.specs.declared.goal.Registration.{Registration}
-use Rattle.pl_state.specs.declared.entry.Entry.{Entry}
 use Rattle.pl_events.specs.declared.event.Event.{Event}
-use Rattle.pl_events.specs.declared.event.Stop.{Stop}
-use Rattle.pl_model.specs.Run.{Fixed, Spelling, most_resources}
+use Rattle.pl_model.specs.Run.{Fixed, most_resources}
 use Rattle.pl_model.specs.Problems.{has_problem}
-use Rattle.pl_model.specs.Requests.{Waiting, goal_at, goal_for, goals_of, has_goal, has_parent, is_acceptable, made_for, may_stand, waiting_of}
-use Rattle.pl_model.specs.Entries.{entry_if, entry_of, has_entry, new_entries, unrecorded_of}
-use Rattle.pl_model.specs.Due.{NothingDue, is_keep_due, is_over_limit, is_post_due, is_ready, parent_stands, result_of}
-use Rattle.pl_engine.specs.Journal.{kept_event, posted_event, stop_event, told_event}
+use Rattle.pl_model.specs.Requests.{Waiting, goal_at, goal_for, goals_of, waiting_of}
+use Rattle.pl_model.specs.Entries.{entry_if, entry_of, new_entries, unrecorded_of}
+use Rattle.pl_model.specs.Due.{NothingDue, is_post_due, is_ready, parent_stands, result_of}
+use Rattle.pl_engine.specs.Journal.{told_event}
 
 -- a number is itself
 pub same_number : (n : ℕ) → (n == n) ≡ true

@@ -1,17 +1,13 @@
 -- How marks and saves stand to a history that grows.
-use Rattle.std.proofs.Common.{◌≡◌, ◌⊎◌, ℕ, ◌+◌, ◌-◌, ◌<◌, ◌≤◌, Bool, true, false, ◌||◌, List, [], ◌∷◌, ◌++◌, length, map, All, AllPairs, Contains, Option, Some, None, refl, sym, ◌∙◌, ap, subst, inl, inr, arith, add-one, ◌==◌, drop, suc}
-use Rattle.std.proofs.lemmas.Grind.{common_steps}
+use Rattle.std.proofs.Common.{◌≡◌, ℕ, ◌+◌, ◌-◌, ◌≤◌, Bool, true, false, List, [], ◌∷◌, ◌++◌, length, All, Contains, Option, Some, None, refl, ◌∙◌, ap, inl, inr, arith, drop, suc}
 use Rattle.std.proofs.lemmas.Bool.Decides.{nat_tests}
-use Rattle.std.proofs.lemmas.List.{map-append}
-use Rattle.std.proofs.lemmas.List.Elements.{All-push, Contains-append_left, Contains-push}
-use Rattle.std.specs.List.{AllByRecursion, list_all}
-use Rattle.pl_events.specs.Closing.{has_stop, is_stop}
+use Rattle.std.proofs.lemmas.List.Elements.{Contains-append_left}
+use Rattle.std.specs.List.{AllByRecursion}
 use Rattle.pl_events.specs.declared.event.Event.{Event}
 use Rattle.pl_events.specs.declared.event.What.{What}
-use Rattle.pl_events.specs.declared.event.What.TheVariants.{Told, HostGone, Kept, Posted, Stopped}
 use Rattle.pl_model.specs.Run.{Fixed, Spelling}
 use Rattle.pl_model.specs.Entries.{state_of}
-use Rattle.pl_model.specs.Saves.{AllMarked, HasMark, IsSaved, IsStory, LacksForFault, LacksForMemory, is_after_save, must_save, prefix_of, saves_of}
+use Rattle.pl_model.specs.Saves.{AllMarked, HasMark, is_after_save, must_save, prefix_of, saves_of}
 
 -- a mark is no longer than its history
 pub is_after_save-le : (history : List Event) (mark : ℕ) → is_after_save history mark ≡ true → mark ≤ length history

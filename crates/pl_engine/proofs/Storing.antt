@@ -1,15 +1,15 @@
 -- How the store stands to a history that grows.
-use Rattle.std.proofs.Common.{◌≡◌, ◌⊎◌, ℕ, ◌+◌, ◌-◌, ◌<◌, ◌≤◌, Bool, true, false, ◌||◌, not, List, [], ◌∷◌, ◌++◌, length, map, All, AllPairs, Contains, Option, Some, None, option_map, refl, sym, ◌∙◌, ap, subst, inl, inr, arith, add-one, ◌==◌, drop, suc, append_assoc}
+use Rattle.std.proofs.Common.{◌≡◌, ℕ, ◌+◌, ◌<◌, ◌≤◌, Bool, true, false, ◌||◌, not, List, [], ◌∷◌, ◌++◌, length, All, Contains, Option, Some, None, option_map, refl, sym, ◌∙◌, ap, subst, inl, inr, arith, suc, append_assoc}
 use Rattle.std.proofs.lemmas.Grind.{common_steps}
 use Rattle.std.proofs.lemmas.Bool.Decides.{nat_tests}
 use Rattle.std.proofs.lemmas.List.{append-nil, map-append}
-use Rattle.std.proofs.lemmas.List.Elements.{All-push, Contains-append_left, Contains-push, recursion_from_All}
+use Rattle.std.proofs.lemmas.List.Elements.{All-push, Contains-push, recursion_from_All}
 use Rattle.std.proofs.lemmas.List.Quantifiers.{all_pairs_push}
-use Rattle.std.specs.List.{AllByRecursion, list_all}
-use Rattle.pl_events.specs.Closing.{has_stop, is_stop}
+use Rattle.std.specs.List.{list_all}
+use Rattle.pl_events.specs.Closing.{has_stop}
 use Rattle.pl_events.specs.declared.event.Event.{Event}
 use Rattle.pl_events.specs.declared.event.What.{What}
-use Rattle.pl_events.specs.declared.event.What.TheVariants.{Told, HostGone, Kept, Posted, Stopped}
+use Rattle.pl_events.specs.declared.event.What.TheVariants.{Kept, Stopped}
 use Rattle.pl_events.specs.declared.event.Stop.{Stop}
 use Rattle.pl_events.specs.declared.event.Stop.TheVariants.{StoreFault, NoMemory}
 use Rattle.pl_world.specs.Told.{Grew, IsKeptOrAdded}
@@ -19,11 +19,10 @@ use Rattle.pl_state.specs.Component.{bare_entry, bare_state}
 use Rattle.pl_state.specs.declared.goal.Goal.{Goal}
 use Rattle.pl_model.specs.Requests.{goal_at, goals_of}
 use Rattle.pl_model.specs.Entries.{entries_after, entry_if, new_entries, state_of}
-use Rattle.pl_model.specs.Saves.{AllMarked, HasMark, IsFurther, IsSaved, IsStory, LacksForFault, LacksForMemory, is_after_save, must_save, prefix_of, saves_of}
+use Rattle.pl_model.specs.Saves.{IsStory, is_after_save, must_save, prefix_of, saves_of}
 use Rattle.pl_state.specs.declared.snapshot.Snapshot.{Snapshot}
 use Rattle.pl_world.specs.Counts.{Rose}
 use Rattle.pl_checkpoint.specs.Spelled.{IsBare, checkpoint_text}
-use Rattle.pl_events.specs.declared.event.Stop.TheVariants.{HostPipeFault, TooManyResources, MessageTooLong}
 use Rattle.pl_engine.specs.Spelled.{host_spelling}
 use Rattle.pl_model.specs.Causes.{is_want_stop}
 use Rattle.pl_engine.specs.Answered.{Stops}
@@ -31,7 +30,7 @@ use Rattle.pl_engine.specs.Journal.{Consistent, kept_event, run_of, stop_event, 
 use Rattle.pl_engine.specs.Kept.{IfFault, IfWant}
 use Rattle.pl_engine.specs.declared.journal.Journal.{Journal}
 use Rattle.pl_engine.specs.Stored.{Adds, IsComplete, IsKeptUp, Stored}
-use Rattle.pl_engine.proofs.Saving.{is_after_save-le, is_after_save-grown, All-is_after_save-grown, prefix_of-whole, saves_of-grown, AllMarked-strict, AllMarked-more, AllMarked-loosened, AllMarked-followed, AllMarked-caused}
+use Rattle.pl_engine.proofs.Saving.{is_after_save-le, All-is_after_save-grown, prefix_of-whole, saves_of-grown, AllMarked-strict, AllMarked-more, AllMarked-loosened, AllMarked-followed, AllMarked-caused}
 
 module _ (run : Fixed) (s : Spelling) where
   same_saves : (event : Event) (past : List Event) (marks : List ℕ)
@@ -43,11 +42,8 @@ module _ (run : Fixed) (s : Spelling) where
   same_entries event past need = same event.what need
     where
       same : (what : What) → must_save what ≡ false → entries_after what (goals_of run past) (new_entries run past) ≡ new_entries run past
-      same (Told _) need = refl
-      same (HostGone _) need = refl
-      same (Kept goal) need = absurd (cc)
-      same (Posted _) need = refl
-      same (Stopped _) need = refl
+      same (Kept _ _) need = absurd (cc)
+      same _ need = refl
 
   -- an event that need not be saved leaves the store complete
   pub IsComplete-grown : (event : Event) (past : List Event) (marks : List ℕ) (before now : Option (List (List ℕ)))
@@ -316,9 +312,7 @@ module _ (run : Fixed) (s : Spelling) where
           subst (λ (story : Option (List (List ℕ))). IsKeptUp run s rose' wanted' (stop_event NoMemory ∷ kept_event goal ∷ past) marks before story) (sym kept)
           (subst (λ (w : Bool). IsKeptUp run s rose' w (stop_event NoMemory ∷ kept_event goal ∷ past) marks before middle) (sym want)
           (IsKeptUp-wanted rose' 0 (kept_event goal) past marks before middle (h.complete going)))
-      left HostPipeFault cause arrived kept want = absurd cause
-      left TooManyResources cause arrived kept want = absurd cause
-      left MessageTooLong cause arrived kept want = absurd cause
+      left _ cause arrived kept want = absurd cause
 
 -- a count that rose since a call rose since before it
 pub Rose-earlier : (start before now : ℕ) → start ≤ before → Rose before now → Rose start now
@@ -336,15 +330,12 @@ IsBareEntry entry = entry ≡ bare_entry entry.urn entry.custom entry.kind entry
 
 -- the entries of goals are bare
 bare_after : (what : What) (goals : List Goal) (entries : List Entry) → All IsBareEntry entries → All IsBareEntry (entries_after what goals entries)
-bare_after (Told _) goals entries h = h
-bare_after (HostGone _) goals entries h = h
-bare_after (Kept goal) goals entries h = kept (goal_at goals goal)
+bare_after (Kept goal _) goals entries h = kept (goal_at goals goal)
   where
     kept : (found : Option Goal) → All IsBareEntry (entries ++ entry_if found)
     kept None = subst (λ (es : List Entry). All IsBareEntry es) (sym (append-nil entries)) h
     kept (Some goal) = All-push IsBareEntry entries _ h refl
-bare_after (Posted _) goals entries h = h
-bare_after (Stopped _) goals entries h = h
+bare_after _ goals entries h = h
 
 bare_entries : (run : Fixed) (history : List Event) → All IsBareEntry (new_entries run history)
 bare_entries run [] = λ k d below. absurd (omega arith)
@@ -378,10 +369,8 @@ Stops-stopped_by stop false history new is = inr (stop, is)
 
 pub IfFault-map : (stop : Stop) (P Q : Type 0) → (P → Q) → IfFault stop P → IfFault stop Q
 IfFault-map StoreFault P Q f h = f h
-IfFault-map HostPipeFault P Q f h = h
-IfFault-map TooManyResources P Q f h = h
-IfFault-map MessageTooLong P Q f h = h
 IfFault-map NoMemory P Q f h = tt
+IfFault-map _ P Q f h = h
 
 or_true : (b : Bool) → (b || true) ≡ true
 or_true true = refl
@@ -391,10 +380,8 @@ or_true false = refl
 pub want_of : (stop : Stop) (before now : Bool) (P : Type 0) → now ≡ (before || is_want_stop stop)
     → IfFault stop P → IfWant stop (now ≡ true)
 want_of StoreFault before now P is h = tt
-want_of HostPipeFault before now P is h = h
-want_of TooManyResources before now P is h = h
-want_of MessageTooLong before now P is h = h
 want_of NoMemory before now P is h = is ∙ or_true before
+want_of _ before now P is h = h
 
 pub or_keeps : (before more now : Bool) → now ≡ (before || more) → before ≡ true → now ≡ true
 or_keeps before more now is h = is ∙ rw h refl

@@ -1,5 +1,5 @@
 -- What a post does to the history and to the writing half.
-use Rattle.std.specs.Prelude.{⊤, ◌≡◌, ◌⊎◌, ◌≤◌, ℕ, Bool, true, false, All, IfSome, List, [], ◌∷◌, Option, None}
+use Rattle.std.specs.Prelude.{◌≡◌, ◌⊎◌, ℕ, Bool, true, false, All, IfSome, List, ◌∷◌, Option, None}
 use Rattle.pl_state.specs.declared.goal.Goal.{Goal}
 use Rattle.pl_events.specs.declared.event.Event.{Event}
 use Rattle.pl_events.specs.declared.event.Stop.{Stop}

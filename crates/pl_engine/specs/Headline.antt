@@ -1,8 +1,8 @@
 -- What the top call promises.
-use Rattle.std.specs.Prelude.{⊤, ◌≡◌, ◌⊎◌, ◌<◌, ◌++◌, ℕ, Bool, true, false, IfSome, MatchOption, List, [], ◌∷◌, Option, Some, None, codes, length, reverse}
+use Rattle.std.specs.Prelude.{⊤, ◌≡◌, ◌⊎◌, ◌<◌, ◌++◌, ℕ, Bool, true, false, IfSome, List, [], ◌∷◌, Option, Some, None, codes, length}
 use Rattle.pl_cli.specs.declared.table.OptionName.TheVariants.{Stack, Project}
 use Rattle.pl_cli.specs.Place.{given_value}
-use Rattle.pl_cli.specs.Reading.{bad_place, engine_words, host_words}
+use Rattle.pl_cli.specs.Reading.{bad_place, engine_words}
 use Rattle.pl_decide.specs.declared.outcome.Outcome.{Outcome}
 use Rattle.pl_decide.specs.declared.outcome.Outcome.TheVariants.{Done, Failed, TooManyResources, BadWords, NotBuilt, BadCheckpoint, PendingOperations, StoreFault, SideFault, StartFault, PipeFault, SinkFault, ChildEnded, BadFrame, OutOfMemory}
 use Rattle.pl_events.specs.Closing.{has_host_end}
@@ -10,17 +10,15 @@ use Rattle.pl_events.specs.declared.event.Event.{Event}
 use Rattle.pl_world.specs.declared.trouble.Trouble.{Trouble}
 use Rattle.pl_world.specs.declared.trouble.Trouble.TheVariants as trouble
 use Rattle.pl_world.specs.Counts.{Rose}
-use Rattle.pl_world.specs.Told.{Piece}
 use Rattle.pl_model.specs.Run.{Fixed}
 use Rattle.pl_model.specs.Problems.{least_outcome}
 use Rattle.pl_model.specs.Requests.{waiting_of}
 use Rattle.pl_model.specs.Entries.{state_of}
 use Rattle.pl_model.specs.Due.{IsQuiet}
 use Rattle.pl_model.specs.Legal.{IsLegal}
-use Rattle.pl_model.specs.HostLines.{HostLines}
 use Rattle.pl_model.specs.Fulfilment.{Fulfils}
 use Rattle.pl_engine.specs.Spelled.{host_spelling}
-use Rattle.pl_engine.specs.Stored.{IsComplete, IsKeptUp}
+use Rattle.pl_engine.specs.Stored.{IsComplete}
 
 -- the status of an outcome
 abbrev pub status_code : Outcome → ℕ

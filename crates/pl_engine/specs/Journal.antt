@@ -1,10 +1,9 @@
 -- What the journal keeps beside its history, and how a stop changes the history.
-use Rattle.std.specs.Prelude.{◌≡◌, ◌⊎◌, ℕ, Bool, true, false, ◌||◌, if◌then◌else◌, is_some, List, [], ◌∷◌}
+use Rattle.std.specs.Prelude.{◌≡◌, ℕ, Bool, true, ◌||◌, if◌then◌else◌, is_some, None, List, ◌∷◌}
 use Rattle.pl_events.specs.Closing.{has_stop}
 use Rattle.pl_events.specs.declared.event.Event.{Event}
 use Rattle.pl_events.specs.declared.event.Stop.{Stop}
 use Rattle.pl_events.specs.declared.event.HostEnd.{HostEnd}
-use Rattle.pl_events.specs.declared.event.HostEnd.TheVariants.{Success, Ended, PipeFault, BadFrame, NoMemory}
 use Rattle.pl_events.specs.declared.event.Request.TheVariants.{Register}
 use Rattle.pl_events.specs.declared.event.What.TheVariants.{Told, HostGone, Kept, Posted, Stopped}
 use Rattle.pl_state.specs.declared.goal.Registration.{Registration}
@@ -42,7 +41,7 @@ abbrev pub told_event : ℕ → Registration → Event
 told_event n told = record { seat = 0; what = Told (Register n told) }
 
 abbrev pub kept_event : ℕ → Event
-kept_event goal = record { seat = 0; what = Kept goal }
+kept_event goal = record { seat = 0; what = Kept goal None }
 
 abbrev pub posted_event : ℕ → Event
 posted_event n = record { seat = 0; what = Posted n }

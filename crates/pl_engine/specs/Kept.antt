@@ -2,7 +2,7 @@
 use Rattle.std.specs.Prelude.{⊤, ◌≡◌, ◌⊎◌, ◌≤◌, ℕ, Bool, true, false, List, ◌∷◌, Option}
 use Rattle.pl_events.specs.declared.event.Event.{Event}
 use Rattle.pl_events.specs.declared.event.Stop.{Stop}
-use Rattle.pl_events.specs.declared.event.Stop.TheVariants.{StoreFault, HostPipeFault, TooManyResources, MessageTooLong, NoMemory}
+use Rattle.pl_events.specs.declared.event.Stop.TheVariants.{StoreFault, NoMemory}
 use Rattle.pl_world.specs.Counts.{Rose}
 use Rattle.pl_model.specs.Run.{Fixed}
 use Rattle.pl_engine.specs.Spelled.{host_spelling}
@@ -13,18 +13,14 @@ use Rattle.pl_engine.specs.declared.journal.Journal.{Journal}
 -- a fact for the case that the store failed; a save ends so or for want of memory
 abbrev pub IfFault : Stop → Type 0 → Type 0
 IfFault StoreFault P = P
-IfFault HostPipeFault P = ⊥
-IfFault TooManyResources P = ⊥
-IfFault MessageTooLong P = ⊥
 IfFault NoMemory P = ⊤
+IfFault _ P = ⊥
 
 -- a fact for the case that memory was wanted
 abbrev pub IfWant : Stop → Type 0 → Type 0
 IfWant StoreFault P = ⊤
-IfWant HostPipeFault P = ⊥
-IfWant TooManyResources P = ⊥
-IfWant MessageTooLong P = ⊥
 IfWant NoMemory P = P
+IfWant _ P = ⊥
 
 -- the keep is in the history, with a stop after it where its save failed
 abbrev pub KeptIn : ℕ → List Event → List Event → Type 0

@@ -1,10 +1,10 @@
 -- How a run stands between two messages of the host, and when the host has ended.
-use Rattle.std.specs.Prelude.{⊤, ◌≡◌, ◌⊎◌, ℕ, Bool, true, false, map, reverse, IfSome, Option, Some, None, List, [], ◌∷◌}
+use Rattle.std.specs.Prelude.{◌≡◌, ◌⊎◌, ℕ, Bool, true, false, map, reverse, IfSome, Option, Some, None, List, [], ◌∷◌}
 use Rattle.pl_state.specs.declared.goal.Registration.{Registration}
-use Rattle.pl_events.specs.Closing.{has_host_end, has_stop}
+use Rattle.pl_events.specs.Closing.{has_host_end}
 use Rattle.pl_events.specs.declared.event.Event.{Event}
 use Rattle.pl_events.specs.declared.event.What.{What}
-use Rattle.pl_events.specs.declared.event.What.TheVariants.{Told, HostGone, Kept, Posted, Stopped}
+use Rattle.pl_events.specs.declared.event.What.TheVariants.{Told, HostGone}
 use Rattle.pl_model.specs.Run.{Fixed}
 use Rattle.pl_model.specs.Problems.{has_problem}
 use Rattle.pl_model.specs.Requests.{goals_of, may_be_next, waiting_of}
@@ -40,9 +40,7 @@ pub record AtRest (run : Fixed) (journal : Journal) (failed : Bool) : Type 0 whe
 abbrev pub is_work : What → Bool
 is_work (Told _) = false
 is_work (HostGone _) = false
-is_work (Kept _) = true
-is_work (Posted _) = true
-is_work (Stopped _) = true
+is_work _ = true
 
 -- the host has ended
 pub record Over (run : Fixed) (journal : Journal) (failed : Bool) : Type 0 where

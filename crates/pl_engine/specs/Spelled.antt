@@ -1,5 +1,5 @@
 -- How this engine's messages and states are spelled.
-use Rattle.std.specs.Prelude.{Bool, true, false, Option, Some, None, option_and_then, List, ℕ}
+use Rattle.std.specs.Prelude.{Bool, true, false, Option, Some, None, option_and_then}
 use Rattle.pl_events.specs.declared.event.Request.{Request}
 use Rattle.pl_host_msg.specs.declared.word.HostWord.{HostWord}
 use Rattle.pl_host_msg.specs.declared.word.HostWord.TheVariants.{Request as Asks, Success}

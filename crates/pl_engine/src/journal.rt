@@ -46,6 +46,7 @@ fn outcome_of_stop(at: u64, stop: Stop) -> Option<Outcome>
 {
     match stop {
         Stop::StoreFault => Some(Outcome::StoreFault),
+        Stop::StartFault => Some(Outcome::StartFault),
         Stop::HostPipeFault => Some(Outcome::PipeFault(Child::Host)),
         Stop::TooManyResources => Some(Outcome::TooManyResources),
         Stop::MessageTooLong => Some(Outcome::Failed {
@@ -73,7 +74,9 @@ fn what_end_is(end: &HostEnd) -> (bool, bool)
     match end {
         HostEnd::Success => (false, false),
         HostEnd::NoMemory => (true, true),
-        HostEnd::Ended | HostEnd::PipeFault | HostEnd::BadFrame(_) => (true, false),
+        HostEnd::Error(_) | HostEnd::Ended | HostEnd::PipeFault | HostEnd::BadFrame(_) => (
+            true, false,
+        ),
     }
 }
 
@@ -82,8 +85,22 @@ fn is_want(stop: Stop) -> bool
 {
     match stop {
         Stop::NoMemory => true,
-        Stop::StoreFault | Stop::HostPipeFault | Stop::TooManyResources | Stop::MessageTooLong =>
-            false,
+        Stop::StoreFault
+        | Stop::StartFault
+        | Stop::HostPipeFault
+        | Stop::TooManyResources
+        | Stop::MessageTooLong => false,
+    }
+}
+
+/// Appends an event; after `OutOfMemory` nothing was appended.
+fn append(history: &mut History, event: Event) -> Result<(), OutOfMemory>
+    ensures appended { OnOk result (history.new ≡ event ∷ history.old) }
+    ensures unchanged { OnErr result (history.new ≡ history.old) }
+{
+    match history.push(event) {
+        Ok(()) => Ok(()),
+        Err(_) => Err(OutOfMemory),
     }
 }
 
@@ -150,9 +167,7 @@ impl Journal {
             seat: REGISTRAR,
             what: What::Told(Request::Register { n, told }),
         };
-        if self.history.push(event).is_err() {
-            return Err(OutOfMemory);
-        }
+        append(&mut self.history, event)?;
         self.last = n;
         Ok(())
     }
@@ -173,9 +188,9 @@ impl Journal {
         self.state.entries.push(entry)?;
         let event = Event {
             seat: REGISTRAR,
-            what: What::Kept { goal },
+            what: What::Kept { goal, fresh: None },
         };
-        if self.history.push(event).is_err() {
+        if append(&mut self.history, event).is_err() {
             self.state.entries.truncate(count);
             return Err(OutOfMemory);
         }
@@ -196,10 +211,7 @@ impl Journal {
             seat: REGISTRAR,
             what: What::Posted { n },
         };
-        if self.history.push(event).is_err() {
-            return Err(OutOfMemory);
-        }
-        Ok(())
+        append(&mut self.history, event)
     }
 
     /// Writes down the host's end, whose problem gives `outcome`; takes no memory.

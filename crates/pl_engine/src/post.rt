@@ -1,9 +1,9 @@
-ghost use Rattle.std.specs.Prelude.{◌≡◌, ◌≤◌, false, None, true, IfOk, OnErr, OnOk, option_map};
+ghost use Rattle.std.specs.Prelude.{◌≡◌, ◌<◌, ◌≤◌, [], false, None, true, IfErr, IfOk, length, OnErr, OnOk, option_map};
 ghost use Rattle.pl_world.specs.Causes.{OnFailed};
 ghost use Rattle.pl_world.specs.Counts.{Rose};
 ghost use Rattle.pl_world.specs.Frames.{IsBody, frame_of};
 ghost use Rattle.pl_world.specs.Told.{Gave, GavePart};
-ghost use Rattle.pl_host_msg.specs.Answer.{answer_text};
+ghost use Rattle.pl_host_msg.specs.Answer.{answer_text, IfTooLong, longest_body};
 ghost use Rattle.pl_model.specs.Due.{answer_of, is_post_due, result_of};
 ghost use Rattle.pl_engine.specs.Spelled.{host_spelling};
 ghost use Rattle.pl_engine.specs.Journal.{Consistent, run_of};
@@ -14,7 +14,7 @@ use crate::journal::Journal;
 use pl_events::{Answer, Stop};
 use pl_host_msg::{MsgOut, answer_bytes, halted_bytes};
 use pl_urn::Urn;
-use pl_value::{Bytes, OutOfMemory};
+use pl_value::{Bytes, Fields, OutOfMemory};
 use pl_world::{Pipe, Trouble, write_frame};
 use std::alloc::Global;
 
@@ -140,7 +140,7 @@ fn answer_body(
     let Some(urn) = urn else {
         return halted_bytes(alloc, n);
     };
-    match answer_bytes(alloc, n, &Answer::Registered { urn }) {
+    match registered_bytes(alloc, n, urn) {
         Ok(body) => Ok(body),
         Err(MsgOut::OutOfMemory) => Err(OutOfMemory),
         Err(MsgOut::TooLong(_)) => {
@@ -148,4 +148,20 @@ fn answer_body(
             halted_bytes(alloc, n)
         }
     }
+}
+
+/// The bytes of the answer that a component of this URN is registered.
+fn registered_bytes(alloc: Global, n: u64, urn: Urn) -> Result<Bytes, MsgOut>
+    ensures bytes { IfOk result (λ bytes. bytes ≡ answer_text n (Answer.Registered urn None [])) }
+    ensures fits { IfOk result (λ bytes. length bytes ≤ longest_body) }
+    ensures too_long { IfErr result (λ error. IfTooLong error
+        (λ len. len ≡ length (answer_text n (Answer.Registered urn None [])))) }
+    ensures over { IfErr result (λ error. IfTooLong error (λ len. longest_body < len)) }
+{
+    let answer = Answer::Registered {
+        urn,
+        id: None,
+        outputs: Fields::new(alloc),
+    };
+    answer_bytes(alloc, n, &answer)
 }

@@ -1,5 +1,6 @@
-ghost use Rattle.std.specs.Prelude.{◌≡◌, ◌≤◌, ◌<◌, ◌^◌, ◌∷◌, true, false, not, ℕ, None, Some, IfOk, length, nat_lt, []};
-ghost use Rattle.pl_model.specs.Requests.{goal_at, goal_for, goals_of};
+ghost use Rattle.std.specs.Prelude.{◌≡◌, ◌≤◌, ◌<◌, ◌^◌, ◌∷◌, true, false, not, ℕ, None, Some, IfOk, IfSome, length, nat_lt, []};
+ghost use Rattle.pl_state.specs.declared.goal.Registration.{Registration};
+ghost use Rattle.pl_model.specs.Requests.{goal_at, goal_for, goals_of, is_registration};
 ghost use Rattle.pl_model.specs.Entries.{entry_if};
 ghost use Rattle.pl_model.specs.Due.{has_room, is_ready, NothingDue};
 ghost use Rattle.pl_engine.specs.Journal.{Consistent, run_of};
@@ -19,7 +20,7 @@ use crate::journal::Journal;
 use crate::judge::{Placed, Refusal, place};
 use crate::keep::keep;
 use crate::post::{Writing, post};
-use pl_decide::{Child, Outcome};
+use pl_decide::{Child, Outcome, Problem};
 use pl_events::{HostEnd, Request, Stop};
 use pl_host_msg::HostWord;
 use pl_state::Registration;
@@ -154,19 +155,24 @@ fn end_messages(alloc: Global, journal: &mut Journal, end: HostEnd)
     ensures same_answers { SameAnswerFaults journal.old.history journal.new.history }
     ensures wanted { journal.old.wanted ≡ true → journal.new.wanted ≡ true }
 {
-    match outcome_of_end(alloc, &end) {
+    let at = journal.history.len() as u64;
+    match outcome_of_end(alloc, at, &end) {
         Ok(outcome) => journal.end_host(end, outcome),
         Err(_) => journal.end_host(HostEnd::NoMemory, None),
     }
 }
 
-/// The outcome that the end's problem gives, if it gives one.
-fn outcome_of_end(alloc: Global, end: &HostEnd) -> Result<Option<Outcome>, OutOfMemory>
-    ensures { IfOk result (λ outcome. (at : ℕ) → outcome ≡ outcome_of_event at (problem_of_end end.now)) }
+/// The outcome that the end's problem gives at this position, if it gives one.
+fn outcome_of_end(alloc: Global, at: u64, end: &HostEnd) -> Result<Option<Outcome>, OutOfMemory>
+    ensures { IfOk result (λ outcome. outcome ≡ outcome_of_event at (problem_of_end end.now)) }
 {
     match end {
         HostEnd::Success => Ok(None),
         HostEnd::NoMemory => Ok(None),
+        HostEnd::Error(text) => {
+            let problem = Problem::HostError(text.copy()?);
+            Ok(Some(Outcome::Failed { at, problem }))
+        }
         HostEnd::Ended => Ok(Some(Outcome::ChildEnded(Child::Host))),
         HostEnd::PipeFault => Ok(Some(Outcome::PipeFault(Child::Host))),
         HostEnd::BadFrame(bytes) => {
@@ -223,6 +229,51 @@ fn register<S: Store, Q: Pipe>(
     }
 }
 
+/// The number and the registration of a request that is one.
+fn registration_of(request: Request) -> Option<(u64, Registration)>
+    ensures told { IfSome result (λ parts. Request.Register parts.0 parts.1 ≡ request) }
+    ensures other { result ≡ None → is_registration request ≡ false }
+{
+    match request {
+        Request::Register { n, told } => Some((n, told)),
+        Request::Outputs { .. } => None,
+        Request::Invoke { .. } => None,
+    }
+}
+
+/// Takes up a request, spelled by `body`; other requests than registrations may not stand yet. Answers
+/// whether the host may go on.
+fn take_up<S: Store, Q: Pipe>(
+    alloc: Global,
+    journal: &mut Journal,
+    store: &mut S,
+    writing: &mut Writing<Q>,
+    request: Request,
+    body: Bytes,
+) -> bool
+    requires rest { AtRest (run_of journal.old) journal.old writing.old.failed }
+    requires stack { IsScope journal.old.state.stack }
+    requires project { IsScope journal.old.project }
+    requires within { (n : ℕ) (told : Registration) → Request.Register n told ≡ request → n ≤ 2 ^ 53 }
+    ensures did { Registered result request body (run_of journal.old) journal.old journal.new writing.new.failed }
+    ensures faults_never_fall { S.faults store.old ≤ S.faults store.new }
+    ensures half_faults_never_fall { Q.faults writing.old.half ≤ Q.faults writing.new.half }
+    ensures store_caused { StoreCaused journal.old.history journal.new.history (S.faults store.old) (S.faults store.new) }
+    ensures answers_caused { AnswersCaused journal.old.history journal.new.history (Q.faults writing.old.half) (Q.faults writing.new.half) }
+    ensures stored { KeepsStored (run_of journal.old) journal.old journal.new
+        (S.faults store.old) (S.faults store.new) (S.story store.old) (S.story store.new) }
+    ensures written { KeepsWritten (run_of journal.old) journal.old journal.new writing.old.failed writing.new.failed
+        (Q.faults writing.old.half) (Q.faults writing.new.half) (Q.given writing.old.half) (Q.given writing.new.half) }
+{
+    match registration_of(request) {
+        Some((n, told)) => register(alloc, journal, store, writing, n, told, body),
+        None => {
+            end_messages(alloc, journal, HostEnd::BadFrame(body));
+            false
+        }
+    }
+}
+
 /// Takes up the host's next message. Answers whether the host may go on.
 fn step<S: Store, Q: Pipe>(
     alloc: Global,
@@ -257,20 +308,8 @@ fn step<S: Store, Q: Pipe>(
                 journal.end_host(HostEnd::Success, None);
                 false
             }
-            HostWord::Request(request) => {
-                let (n, told) = parts(request);
-                register(alloc, journal, store, writing, n, told, body)
-            }
+            HostWord::Request(request) => take_up(alloc, journal, store, writing, request, body),
         },
-    }
-}
-
-/// The number and the registration of a request.
-fn parts(request: Request) -> (u64, Registration)
-    ensures { Request.Register result.0 result.1 ≡ request }
-{
-    match request {
-        Request::Register { n, told } => (n, told),
     }
 }
 

@@ -1,23 +1,17 @@
 use Rattle.std.specs.Prelude.{ℕ, ◌+◌, Bool, true, false, ◌||◌, if◌then◌else◌, List, [], ◌∷◌}
 use Rattle.pl_events.specs.declared.event.Event.{Event}
 use Rattle.pl_events.specs.declared.event.What.{What}
-use Rattle.pl_events.specs.declared.event.What.TheVariants.{Told, HostGone, Kept, Posted, Stopped}
+use Rattle.pl_events.specs.declared.event.What.TheVariants.{HostGone, Stopped}
 
 -- whether the event is the host's end
 abbrev pub is_host_end : What → Bool
 is_host_end (HostGone _) = true
-is_host_end (Told _) = false
-is_host_end (Kept _) = false
-is_host_end (Posted _) = false
-is_host_end (Stopped _) = false
+is_host_end _ = false
 
 -- whether the event is a stop
 abbrev pub is_stop : What → Bool
 is_stop (Stopped _) = true
-is_stop (HostGone _) = false
-is_stop (Told _) = false
-is_stop (Kept _) = false
-is_stop (Posted _) = false
+is_stop _ = false
 
 -- whether the host's end stands in the history
 abbrev pub has_host_end : List Event → Bool

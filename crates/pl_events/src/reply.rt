@@ -199,3 +199,14 @@ pub enum Exchanged {
     Reply(Reply),
     Lost(Loss),
 }
+
+impl Exchanged {
+    pub fn copy(&self, alloc: Global) -> Result<Exchanged, OutOfMemory>
+        ensures { IfOk result (λ made. made ≡ self.now) }
+    {
+        Ok(match self {
+            Exchanged::Reply(reply) => Exchanged::Reply(reply.copy(alloc)?),
+            Exchanged::Lost(loss) => Exchanged::Lost(loss.copy(alloc)?),
+        })
+    }
+}

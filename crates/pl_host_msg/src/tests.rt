@@ -17,6 +17,7 @@ fn read(alloc: Global, bytes: &[u8]) -> Result<String, AllocError> {
             let name = told.name.as_str();
             format!(in alloc; "{n} {kind} {name} {parent}")
         }
+        Ok(HostWord::Request(_)) => String::from_str(alloc, "another request"),
         Err(MsgIn::NotAMessage) => String::from_str(alloc, "none"),
         Err(MsgIn::OutOfMemory) => Err(AllocError),
     }

@@ -3,7 +3,7 @@ use Rattle.std.specs.Prelude.{◌≡◌, ℕ, Bool, true, false, ◌||◌, List,
 use Rattle.pl_world.specs.Counts.{Rose}
 use Rattle.pl_events.specs.declared.event.Event.{Event}
 use Rattle.pl_events.specs.declared.event.What.{What}
-use Rattle.pl_events.specs.declared.event.What.TheVariants.{Told, HostGone, Kept, Posted, Stopped}
+use Rattle.pl_events.specs.declared.event.What.TheVariants.{HostGone, Stopped}
 use Rattle.pl_events.specs.declared.event.HostEnd.{HostEnd}
 use Rattle.pl_events.specs.declared.event.HostEnd.TheVariants as ended
 use Rattle.pl_events.specs.declared.event.Stop.{Stop}
@@ -22,66 +22,42 @@ pub record RunCounts : Type 0 where
 -- whether the stop says that the checkpoint could not be replaced
 abbrev pub is_store_fault : Stop → Bool
 is_store_fault stopped.StoreFault = true
-is_store_fault stopped.HostPipeFault = false
-is_store_fault stopped.TooManyResources = false
-is_store_fault stopped.MessageTooLong = false
-is_store_fault stopped.NoMemory = false
+is_store_fault _ = false
 
 -- whether the stop says that an answer could not be given
 abbrev pub is_answer_fault : Stop → Bool
-is_answer_fault stopped.StoreFault = false
 is_answer_fault stopped.HostPipeFault = true
-is_answer_fault stopped.TooManyResources = false
-is_answer_fault stopped.MessageTooLong = false
-is_answer_fault stopped.NoMemory = false
+is_answer_fault _ = false
 
 -- whether the stop is want of memory
 abbrev pub is_want_stop : Stop → Bool
-is_want_stop stopped.StoreFault = false
-is_want_stop stopped.HostPipeFault = false
-is_want_stop stopped.TooManyResources = false
-is_want_stop stopped.MessageTooLong = false
 is_want_stop stopped.NoMemory = true
+is_want_stop _ = false
 
 -- whether the host's end says that a read failed
 abbrev pub is_read_fault : HostEnd → Bool
-is_read_fault ended.Success = false
-is_read_fault ended.Ended = false
 is_read_fault ended.PipeFault = true
-is_read_fault (ended.BadFrame _) = false
-is_read_fault ended.NoMemory = false
+is_read_fault _ = false
 
 -- whether the host's end says that its output ended
 abbrev pub is_output_end : HostEnd → Bool
-is_output_end ended.Success = false
 is_output_end ended.Ended = true
-is_output_end ended.PipeFault = false
-is_output_end (ended.BadFrame _) = false
-is_output_end ended.NoMemory = false
+is_output_end _ = false
 
 -- whether the host's end is want of memory
 abbrev pub is_want_end : HostEnd → Bool
-is_want_end ended.Success = false
-is_want_end ended.Ended = false
-is_want_end ended.PipeFault = false
-is_want_end (ended.BadFrame _) = false
 is_want_end ended.NoMemory = true
+is_want_end _ = false
 
 -- whether the event is a stop of this kind
 abbrev pub is_stop_by : (Stop → Bool) → What → Bool
-is_stop_by kind (Told _) = false
-is_stop_by kind (HostGone _) = false
-is_stop_by kind (Kept _) = false
-is_stop_by kind (Posted _) = false
 is_stop_by kind (Stopped stop) = kind stop
+is_stop_by kind _ = false
 
 -- whether the event is a host's end of this kind
 abbrev pub is_end_by : (HostEnd → Bool) → What → Bool
-is_end_by kind (Told _) = false
 is_end_by kind (HostGone end) = kind end
-is_end_by kind (Kept _) = false
-is_end_by kind (Posted _) = false
-is_end_by kind (Stopped _) = false
+is_end_by kind _ = false
 
 -- whether a stop of this kind stands in the history
 abbrev pub has_stop_by : (Stop → Bool) → List Event → Bool
@@ -95,11 +71,9 @@ has_end_by kind (event ∷ past) = is_end_by kind event.what || has_end_by kind 
 
 -- whether the event says that memory was wanted
 abbrev pub is_want : What → Bool
-is_want (Told _) = false
 is_want (HostGone end) = is_want_end end
-is_want (Kept _) = false
-is_want (Posted _) = false
 is_want (Stopped stop) = is_want_stop stop
+is_want _ = false
 
 -- whether the history says that memory was wanted
 abbrev pub has_want : List Event → Bool

@@ -1,5 +1,5 @@
 -- The work that is due, the answers that are given, and what is over the limit.
-use Rattle.std.specs.Prelude.{◌≡◌, ℕ, Bool, true, false, not, ◌&&◌, ◌||◌, if◌then◌else◌, nat_lt, Option, Some, None, is_some, List, length, codes}
+use Rattle.std.specs.Prelude.{◌≡◌, ℕ, Bool, true, false, not, ◌&&◌, ◌||◌, if◌then◌else◌, nat_lt, Option, Some, None, is_some, List, [], length, codes}
 use Rattle.pl_state.specs.declared.goal.Goal.{Goal}
 use Rattle.pl_state.specs.declared.entry.Entry.{Entry}
 use Rattle.pl_events.specs.declared.event.Event.{Event}
@@ -27,7 +27,7 @@ halted = Refused (codes "halted")
 
 abbrev pub answer_for : Option Goal → Answer
 answer_for None = halted
-answer_for (Some goal) = Registered goal.urn
+answer_for (Some goal) = Registered goal.urn None []
 
 -- whether the answer of request n would have a longer body than a frame may have
 abbrev pub is_too_long : Spelling → ℕ → Answer → Bool

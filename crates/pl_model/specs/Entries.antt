@@ -1,5 +1,5 @@
 -- What the events record: entries, and the state of a history.
-use Rattle.std.specs.Prelude.{ℕ, ◌==◌, Bool, false, not, if◌then◌else◌, Option, Some, None, List, [], ◌∷◌, ◌++◌, length, filter}
+use Rattle.std.specs.Prelude.{ℕ, ◌==◌, Bool, not, if◌then◌else◌, Option, Some, None, List, [], ◌∷◌, ◌++◌, length, filter}
 use Rattle.std.specs.List.{list_any}
 use Rattle.std.specs.Str.{bytes_eq}
 use Rattle.pl_state.specs.declared.goal.Goal.{Goal}
@@ -8,7 +8,7 @@ use Rattle.pl_state.specs.declared.snapshot.Snapshot.{Snapshot}
 use Rattle.pl_state.specs.Component.{bare_state, component_entry}
 use Rattle.pl_events.specs.declared.event.Event.{Event}
 use Rattle.pl_events.specs.declared.event.What.{What}
-use Rattle.pl_events.specs.declared.event.What.TheVariants.{Told, HostGone, Kept, Posted, Stopped}
+use Rattle.pl_events.specs.declared.event.What.TheVariants.{Told, Kept}
 use Rattle.pl_model.specs.Run.{Fixed}
 use Rattle.pl_model.specs.Problems.{has_problem}
 use Rattle.pl_model.specs.Requests.{goals_of, goal_at}
@@ -24,11 +24,8 @@ entry_if (Some goal) = entry_of goal ∷ []
 
 -- the recorded entries after an event: a kept goal's entry comes last
 abbrev pub entries_after : What → List Goal → List Entry → List Entry
-entries_after (Told _) goals entries = entries
-entries_after (HostGone _) goals entries = entries
-entries_after (Kept goal) goals entries = entries ++ entry_if (goal_at goals goal)
-entries_after (Posted _) goals entries = entries
-entries_after (Stopped _) goals entries = entries
+entries_after (Kept goal _) goals entries = entries ++ entry_if (goal_at goals goal)
+entries_after _ goals entries = entries
 
 -- the recorded entries, in order of recording
 abbrev pub new_entries : Fixed → List Event → List Entry
@@ -46,10 +43,8 @@ has_entry entries urn = list_any (λ entry. bytes_eq entry.urn urn) entries
 -- the numbers of the goals that are not recorded after an event
 abbrev pub unrecorded_after : What → Bool → List Goal → List ℕ → List ℕ
 unrecorded_after (Told _) halted goals unrecorded = if halted then unrecorded else length goals ∷ unrecorded
-unrecorded_after (HostGone _) halted goals unrecorded = unrecorded
-unrecorded_after (Kept goal) halted goals unrecorded = filter (λ number. not (number == goal)) unrecorded
-unrecorded_after (Posted _) halted goals unrecorded = unrecorded
-unrecorded_after (Stopped _) halted goals unrecorded = unrecorded
+unrecorded_after (Kept goal _) halted goals unrecorded = filter (λ number. not (number == goal)) unrecorded
+unrecorded_after _ halted goals unrecorded = unrecorded
 
 -- the numbers of the goals that are not recorded yet, newest first
 abbrev pub unrecorded_of : Fixed → List Event → List ℕ

@@ -6,9 +6,9 @@ use Rattle.pl_world.specs.Frames.{IsBody, frame_of, length_bytes, IsPartOfFrame,
 use Rattle.pl_events.specs.declared.event.Event.{Event}
 use Rattle.pl_events.specs.declared.event.Request.{Request}
 use Rattle.pl_events.specs.declared.event.What.{What}
-use Rattle.pl_events.specs.declared.event.What.TheVariants.{Told, HostGone, Kept, Posted, Stopped}
+use Rattle.pl_events.specs.declared.event.What.TheVariants.{Told, HostGone, Posted}
 use Rattle.pl_events.specs.declared.event.HostEnd.{HostEnd}
-use Rattle.pl_events.specs.declared.event.HostEnd.TheVariants.{Success, Ended, PipeFault, BadFrame, NoMemory}
+use Rattle.pl_events.specs.declared.event.HostEnd.TheVariants.{Success, Error, Ended, PipeFault, BadFrame, NoMemory}
 use Rattle.pl_model.specs.Run.{Fixed, Spelling, longest_body}
 use Rattle.pl_model.specs.Requests.{may_be_next}
 use Rattle.pl_model.specs.Due.{answer_of, is_post_due}
@@ -34,10 +34,11 @@ IsBadFrame run spelling past bytes added =
     (IsBody bytes × IsNoMessage run spelling past bytes × (added ≡ frame_of bytes))
     ⊎ (IsBadLength bytes × (added ≡ bytes))
 
--- what the host's end adds to the bytes that were taken, and its cause
+-- what the host's end adds to the bytes that were taken, and its cause; no message spells an error yet
 abbrev pub EndAdds : Fixed → Spelling → Causes → List Event → HostEnd → List ℕ → Type 0
 EndAdds run spelling half past Success added =
     (body : List ℕ) × IsBody body × (spelling.is_success body ≡ true) × (added ≡ frame_of body)
+EndAdds run spelling half past (Error text) added = ⊥
 EndAdds run spelling half past Ended added = Rose 0 half.ends × IsPartOfFrame added
 EndAdds run spelling half past PipeFault added = Rose 0 half.faults × IsPartOfFrame added
 EndAdds run spelling half past (BadFrame bytes) added = IsBadFrame run spelling past bytes added
@@ -54,9 +55,7 @@ TookAfter run spelling half (Told request) past Before taken =
     (before added : List ℕ) × Before before × RequestAdds spelling request added × (taken ≡ before ++ added)
 TookAfter run spelling half (HostGone end) past Before taken =
     (before added : List ℕ) × Before before × EndAdds run spelling half past end added × (taken ≡ before ++ added)
-TookAfter run spelling half (Kept _) past Before taken = Before taken
-TookAfter run spelling half (Posted _) past Before taken = Before taken
-TookAfter run spelling half (Stopped _) past Before taken = Before taken
+TookAfter run spelling half _ past Before taken = Before taken
 
 -- the bytes taken from the reading half are the frames of the told requests, in order, and what the
 -- host's end adds
@@ -67,12 +66,9 @@ HostTook run spelling half (event ∷ past) taken =
 
 -- the bytes of the answers after an event: a post adds the frame of its answer
 abbrev pub answers_after : Fixed → Spelling → What → List Event → List ℕ → List ℕ
-answers_after run spelling (Told _) past before = before
-answers_after run spelling (HostGone _) past before = before
-answers_after run spelling (Kept _) past before = before
 answers_after run spelling (Posted n) past before =
     before ++ frame_of (spelling.answer_text n (answer_of run spelling past n))
-answers_after run spelling (Stopped _) past before = before
+answers_after run spelling _ past before = before
 
 -- the frames of the answers that were posted, in order of posting
 abbrev pub answers_of : Fixed → Spelling → List Event → List ℕ

@@ -1,12 +1,12 @@
 -- Which histories a run may have.
-use Rattle.std.specs.Prelude.{⊤, ◌≡◌, ℕ, ◌≤◌, ◌^◌, true, false, List, [], ◌∷◌}
+use Rattle.std.specs.Prelude.{⊤, ◌≡◌, ℕ, ◌≤◌, ◌^◌, true, false, Option, None, List, [], ◌∷◌}
 use Rattle.pl_events.specs.Closing.{has_host_end, has_stop}
 use Rattle.pl_events.specs.declared.event.Event.{Event}
 use Rattle.pl_events.specs.declared.event.What.{What}
 use Rattle.pl_events.specs.declared.event.What.TheVariants.{Told, HostGone, Kept, Posted, Stopped}
 use Rattle.pl_events.specs.declared.event.Request.{Request}
 use Rattle.pl_events.specs.declared.event.Stop.{Stop}
-use Rattle.pl_events.specs.declared.event.Stop.TheVariants.{StoreFault, HostPipeFault, TooManyResources, MessageTooLong, NoMemory}
+use Rattle.pl_events.specs.declared.event.Stop.TheVariants.{StoreFault, StartFault, HostPipeFault, TooManyResources, MessageTooLong, NoMemory}
 use Rattle.pl_model.specs.Run.{Fixed, Spelling}
 use Rattle.pl_model.specs.Requests.{number_of, may_be_next}
 use Rattle.pl_model.specs.Due.{is_post_due, is_keep_due, is_over_limit, is_too_long, result_of, answer_for, NothingDue}
@@ -34,9 +34,10 @@ pub record MayBeTooLong (run : Fixed) (spelling : Spelling) (past : List Event) 
   pub some_post : (n : ℕ) × (is_post_due run past n ≡ true)
       × (is_too_long spelling n (answer_for (result_of run past n)) ≡ true)
 
--- what a stop tells of the history before it
+-- what a stop tells of the history before it; no provider child is started yet
 abbrev pub StopFits : Fixed → Spelling → List Event → Stop → Type 0
 StopFits run spelling past StoreFault = ⊤
+StopFits run spelling past StartFault = ⊥
 StopFits run spelling past HostPipeFault = ⊤
 StopFits run spelling past TooManyResources = MayBeTooMany run past
 StopFits run spelling past MessageTooLong = MayBeTooLong run spelling past
@@ -47,13 +48,18 @@ pub record MayStop (run : Fixed) (spelling : Spelling) (past : List Event) (stop
   pub first : has_stop past ≡ false
   pub fits : StopFits run spelling past stop
 
--- this may happen after that history, by the thread at this seat
+-- the keep is due; no id is made for a component
+abbrev pub MayBeKept : Fixed → List Event → ℕ → Option ℕ → Type 0
+MayBeKept run past goal fresh = (is_keep_due run past goal ≡ true) × (fresh ≡ None)
+
+-- this may happen after that history, by the thread at this seat; operations, drops and clears may not yet
 abbrev pub MayHappen : Fixed → Spelling → List Event → ℕ → What → Type 0
 MayHappen run spelling past seat (Told request) = MayBeTold run past seat request
 MayHappen run spelling past seat (HostGone end) = MayEnd past seat
-MayHappen run spelling past seat (Kept goal) = is_keep_due run past goal ≡ true
+MayHappen run spelling past seat (Kept goal fresh) = MayBeKept run past goal fresh
 MayHappen run spelling past seat (Posted n) = is_post_due run past n ≡ true
 MayHappen run spelling past seat (Stopped stop) = MayStop run spelling past stop
+MayHappen run spelling past seat _ = ⊥
 
 -- every event may happen after those before it
 abbrev pub IsLegal : Fixed → Spelling → List Event → Type 0

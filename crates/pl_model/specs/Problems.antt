@@ -2,7 +2,7 @@
 use Rattle.std.specs.Prelude.{ℕ, Bool, false, ◌||◌, Option, Some, None, is_some, List, [], ◌∷◌, length}
 use Rattle.pl_events.specs.declared.event.Event.{Event}
 use Rattle.pl_events.specs.declared.event.What.{What}
-use Rattle.pl_events.specs.declared.event.What.TheVariants.{Told, HostGone, Kept, Posted, Stopped}
+use Rattle.pl_events.specs.declared.event.What.TheVariants.{HostGone, Stopped}
 use Rattle.pl_events.specs.declared.event.HostEnd.{HostEnd}
 use Rattle.pl_events.specs.declared.event.HostEnd.TheVariants as ended
 use Rattle.pl_events.specs.declared.event.Stop.{Stop}
@@ -16,6 +16,7 @@ use Rattle.pl_decide.specs.declared.outcome.Outcome.TheVariants as outcome
 -- the problem that a host's end is; its word of success is none
 abbrev pub problem_of_end : HostEnd → Option Problem
 problem_of_end ended.Success = None
+problem_of_end (ended.Error text) = Some (problem.HostError text)
 problem_of_end ended.Ended = Some (problem.ChildEnded Host)
 problem_of_end ended.PipeFault = Some (problem.PipeFault Host)
 problem_of_end (ended.BadFrame bytes) = Some (problem.BadFrame Host bytes)
@@ -24,6 +25,7 @@ problem_of_end ended.NoMemory = Some problem.NoMemory
 -- the problem that a stop is
 abbrev pub problem_of_stop : Stop → Problem
 problem_of_stop stopped.StoreFault = problem.StoreFault
+problem_of_stop stopped.StartFault = problem.StartFault
 problem_of_stop stopped.HostPipeFault = problem.PipeFault Host
 problem_of_stop stopped.TooManyResources = problem.TooManyResources
 problem_of_stop stopped.MessageTooLong = problem.MessageTooLong
@@ -31,11 +33,9 @@ problem_of_stop stopped.NoMemory = problem.NoMemory
 
 -- the problem that an event makes
 abbrev pub problem_of_event : What → Option Problem
-problem_of_event (Told _) = None
 problem_of_event (HostGone end) = problem_of_end end
-problem_of_event (Kept _) = None
-problem_of_event (Posted _) = None
 problem_of_event (Stopped stop) = Some (problem_of_stop stop)
+problem_of_event _ = None
 
 -- whether a problem stands in the history
 abbrev pub has_problem : List Event → Bool

@@ -1,5 +1,5 @@
 -- Requests and the goals that they make.
-use Rattle.std.specs.Prelude.{ℕ, ◌==◌, Bool, true, not, nat_lt, ◌&&◌, ◌||◌, if◌then◌else◌, Option, Some, None, is_none, List, [], ◌∷◌, length, filter}
+use Rattle.std.specs.Prelude.{ℕ, ◌==◌, Bool, true, false, not, nat_lt, ◌&&◌, ◌||◌, if◌then◌else◌, Option, Some, None, is_none, List, [], ◌∷◌, length, filter}
 use Rattle.std.specs.List.{list_any}
 use Rattle.std.specs.Str.{bytes_eq}
 use Rattle.pl_urn.specs.Grammar.{child_text, child_fault}
@@ -8,23 +8,22 @@ use Rattle.pl_state.specs.declared.goal.Goal.{Goal}
 use Rattle.pl_state.specs.Component.{is_plain, plain_goal}
 use Rattle.pl_events.specs.declared.event.Event.{Event}
 use Rattle.pl_events.specs.declared.event.What.{What}
-use Rattle.pl_events.specs.declared.event.What.TheVariants.{Told, HostGone, Kept, Posted, Stopped}
+use Rattle.pl_events.specs.declared.event.What.TheVariants.{Told, Posted}
 use Rattle.pl_events.specs.declared.event.Request.{Request}
-use Rattle.pl_events.specs.declared.event.Request.TheVariants.{Register}
+use Rattle.pl_events.specs.declared.event.Request.TheVariants.{Register, Outputs, Invoke}
 use Rattle.pl_model.specs.Run.{Fixed}
 use Rattle.pl_model.specs.Problems.{has_problem}
 
 -- a request's number
 abbrev pub number_of : Request → ℕ
 number_of (Register n told) = n
+number_of (Outputs n _ _) = n
+number_of (Invoke n _ _ _ _) = n
 
 -- the number of the newest request that was told, 0 where none was
 abbrev pub number_after : What → ℕ → ℕ
 number_after (Told request) before = number_of request
-number_after (HostGone _) before = before
-number_after (Kept _) before = before
-number_after (Posted _) before = before
-number_after (Stopped _) before = before
+number_after _ before = before
 
 abbrev pub last_number : List Event → ℕ
 last_number [] = 0
@@ -35,16 +34,20 @@ abbrev pub goal_for : Fixed → Registration → Goal
 goal_for run told =
     plain_goal (child_text told.parent run.stack run.project told.kind told.name) told.kind told.parent
 
-abbrev pub goal_of : Fixed → Request → Goal
-goal_of run (Register n told) = goal_for run told
+-- whether a request is a registration
+abbrev pub is_registration : Request → Bool
+is_registration (Register _ _) = true
+is_registration _ = false
+
+-- the goals with the one that a request makes; only a registration makes one
+abbrev pub with_goal : Fixed → Request → List Goal → List Goal
+with_goal run (Register n told) goals = goal_for run told ∷ goals
+with_goal run _ goals = goals
 
 -- the goals after an event, newest first: a request that is told makes one, unless a problem halted it
 abbrev pub goals_after : Fixed → What → Bool → List Goal → List Goal
-goals_after run (Told request) halted goals = if halted then goals else goal_of run request ∷ goals
-goals_after run (HostGone _) halted goals = goals
-goals_after run (Kept _) halted goals = goals
-goals_after run (Posted _) halted goals = goals
-goals_after run (Stopped _) halted goals = goals
+goals_after run (Told request) halted goals = if halted then goals else with_goal run request goals
+goals_after run _ halted goals = goals
 
 -- the goals of a history, newest first; a goal's number is the count of the goals before it
 abbrev pub goals_of : Fixed → List Event → List Goal
@@ -72,10 +75,11 @@ is_acceptable run goals told =
     is_plain told && is_none (child_fault told.kind told.name)
     && (has_parent goals told.parent && not (has_goal goals (goal_for run told).urn))
 
--- whether a request may stand after this history: a problem halts every request, and nothing else is
--- asked of one that is halted
+-- whether a request may stand after this history: a problem halts every registration, and nothing else is
+-- asked of one that is halted; other requests may not stand yet
 abbrev pub may_stand : Fixed → List Event → Request → Bool
 may_stand run past (Register n told) = has_problem past || is_acceptable run (goals_of run past) told
+may_stand run past _ = false
 
 -- whether a request may be told after this history: its number is above every told one, and it may stand
 abbrev pub may_be_next : Fixed → List Event → Request → Bool
@@ -94,10 +98,8 @@ made_by halted goals = if halted then None else Some (length goals)
 -- what waits after an event: a request that is told waits until its answer is posted
 abbrev pub waiting_after : What → Option ℕ → List Waiting → List Waiting
 waiting_after (Told request) made waiting = record { number = number_of request; made = made } ∷ waiting
-waiting_after (HostGone _) made waiting = waiting
-waiting_after (Kept _) made waiting = waiting
 waiting_after (Posted n) made waiting = filter (λ request. not (request.number == n)) waiting
-waiting_after (Stopped _) made waiting = waiting
+waiting_after _ made waiting = waiting
 
 -- the told requests that wait for their answer, newest first
 abbrev pub waiting_of : Fixed → List Event → List Waiting

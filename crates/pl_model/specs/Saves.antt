@@ -3,18 +3,16 @@ use Rattle.std.specs.Prelude.{⊤, ◌≡◌, ◌⊎◌, ℕ, ◌+◌, ◌-◌, 
 use Rattle.pl_events.specs.Closing.{has_stop}
 use Rattle.pl_events.specs.declared.event.Event.{Event}
 use Rattle.pl_events.specs.declared.event.What.{What}
-use Rattle.pl_events.specs.declared.event.What.TheVariants.{Told, HostGone, Kept, Posted, Stopped}
+use Rattle.pl_events.specs.declared.event.What.TheVariants.{Kept, Stopped}
 use Rattle.pl_events.specs.declared.event.Stop.TheVariants.{StoreFault, NoMemory}
 use Rattle.pl_model.specs.Run.{Fixed, Spelling}
 use Rattle.pl_model.specs.Entries.{state_of}
 
--- whether the checkpoint is replaced after an event: it is where the event changes the state
+-- whether the checkpoint is replaced after an event: it is where the event changes the state, and a keep alone
+-- does yet
 abbrev pub must_save : What → Bool
-must_save (Told _) = false
-must_save (HostGone _) = false
-must_save (Kept _) = true
-must_save (Posted _) = false
-must_save (Stopped _) = false
+must_save (Kept _ _) = true
+must_save _ = false
 
 -- the history's first `count` events
 abbrev pub prefix_of : List Event → ℕ → List Event

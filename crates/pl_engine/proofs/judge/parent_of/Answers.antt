@@ -1,4 +1,4 @@
-use Rattle.std.proofs.Common.{◌≡◌, ℕ, List, Option, Some, true, false, ap, sym, subst, ◌∙◌}
+use Rattle.std.proofs.Common.{ℕ, List, Option, Some, ap, sym, ◌∙◌}
 use Rattle.pl_model.specs.Entries.{has_entry}
 use Rattle.pl_model.specs.Due.{parent_stands}
 use Rattle.pl_engine.proofs.Finding.{found_urn, found_stands, missed}

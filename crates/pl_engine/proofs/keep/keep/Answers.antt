@@ -1,7 +1,6 @@
-use Rattle.std.proofs.Common.{◌≡◌, ◌++◌, [], ◌∷◌, length, ℕ, List, Option, true, false, refl, sym, ◌∙◌, ap, subst}
+use Rattle.std.proofs.Common.{◌≡◌, ◌++◌, [], ◌∷◌, length, ℕ, List, false, refl, sym, ◌∙◌, ap, subst}
 use Rattle.pl_events.specs.declared.event.Event.{Event}
 use Rattle.pl_events.specs.declared.event.Stop.TheVariants.{NoMemory}
-use Rattle.pl_checkpoint.specs.Spelled.{checkpoint_text}
 use Rattle.pl_world.specs.Counts.{Rose}
 use Rattle.pl_world.specs.Told.{Grew, IsKeptOrAdded}
 use Rattle.pl_engine.specs.Spelled.{host_spelling}

@@ -1,4 +1,4 @@
-use Rattle.std.proofs.Common.{◌≡◌, ◌<◌, ◌≤◌, ℕ, List, refl, sym, ◌∙◌, ap, subst, true}
+use Rattle.std.proofs.Common.{◌≤◌, ℕ, None, [], List, sym, ◌∙◌, ap, subst}
 use Rattle.pl_events.specs.declared.event.Answer.{Answer}
 use Rattle.pl_events.specs.declared.event.Answer.TheVariants.{Registered}
 use Rattle.pl_events.specs.declared.event.Stop.TheVariants.{MessageTooLong}
@@ -14,7 +14,7 @@ pub returns-in_default-clause-body : goal.returns-in_default-clause-body
 returns-in_default-clause-body c = IsBody-if c.args.n halted c.halted_bytes.result c.halted_bytes.ensures.bytes c.halted_bytes.ensures.fits
 
 pub returns-in-Ok-clause-body : goal.returns-in-Ok-clause-body
-returns-in-Ok-clause-body c = IsBody-answer c.args.n (Registered c.in-Some.urn) c.in-Ok.body c.in-Ok.ensures.bytes c.in-Ok.ensures.fits
+returns-in-Ok-clause-body c = IsBody-answer c.args.n (Registered c.in-Some.urn None []) c.in-Ok.body c.in-Ok.ensures.bytes c.in-Ok.ensures.fits
 
 pub returns-in-Ok-clause-answer : goal.returns-in-Ok-clause-answer
 returns-in-Ok-clause-answer c =
@@ -28,18 +28,18 @@ stop-requires-clause-fits c = λ _. record {
     c.args.n,
     c.requires.due,
     too_long-result (run_of c.args.journal.now) c.args.journal.now.history c.args.n c.in-Some.urn (c.requires.result ∙ c.in-Some.is)
-        (over_limit c.in-Err-TooLong.field-0 c.in-Err-TooLong.field-0-0 c.args.n (Registered c.in-Some.urn) c.in-Err-TooLong.field-0-is c.in-Err-TooLong.ensures.too_long c.in-Err-TooLong.ensures.over),
+        (over_limit c.in-Err-TooLong.field-0 c.in-Err-TooLong.field-0-0 c.args.n (Registered c.in-Some.urn None []) c.in-Err-TooLong.field-0-is c.in-Err-TooLong.ensures.too_long c.in-Err-TooLong.ensures.over),
   );
 }
 
-pub returns-clause-body : goal.returns-clause-body
-returns-clause-body c = IsBody-if c.args.n halted c.halted_bytes-in-Err-TooLong.result c.halted_bytes-in-Err-TooLong.ensures.bytes c.halted_bytes-in-Err-TooLong.ensures.fits
+pub returns-in-Err-TooLong-clause-body : goal.returns-in-Err-TooLong-clause-body
+returns-in-Err-TooLong-clause-body c = IsBody-if c.args.n halted c.halted_bytes-in-Err-TooLong.result c.halted_bytes-in-Err-TooLong.ensures.bytes c.halted_bytes-in-Err-TooLong.ensures.fits
 
-pub returns-clause-answer : goal.returns-clause-answer
-returns-clause-answer c =
+pub returns-in-Err-TooLong-clause-answer : goal.returns-in-Err-TooLong-clause-answer
+returns-in-Err-TooLong-clause-answer c =
     text-if c.args.n _ c.halted_bytes-in-Err-TooLong.result
     (answer_of-stopped (run_of c.args.journal.now) MessageTooLong c.args.journal.now.stopped c.args.journal.now.history c.stop.new.self.history c.args.n
     c.stop.ensures.history (λ stopped. sym c.requires.consistent.halted ∙ c.requires.consistent.halting stopped)
     (too_long-result (run_of c.args.journal.now) c.args.journal.now.history c.args.n c.in-Some.urn (c.requires.result ∙ c.in-Some.is)
-    (over_limit c.in-Err-TooLong.field-0 c.in-Err-TooLong.field-0-0 c.args.n (Registered c.in-Some.urn) c.in-Err-TooLong.field-0-is c.in-Err-TooLong.ensures.too_long c.in-Err-TooLong.ensures.over)))
+    (over_limit c.in-Err-TooLong.field-0 c.in-Err-TooLong.field-0-0 c.args.n (Registered c.in-Some.urn None []) c.in-Err-TooLong.field-0-is c.in-Err-TooLong.ensures.too_long c.in-Err-TooLong.ensures.over)))
     c.halted_bytes-in-Err-TooLong.ensures.bytes

@@ -1,6 +1,5 @@
-use Rattle.std.proofs.Common.{◌≡◌, ◌≤◌, [], ◌∷◌, ℕ, List, true, false, refl, sym, ◌∙◌, ap, inl, inr, drop, take, arith}
+use Rattle.std.proofs.Common.{[], ◌∙◌, ap, inl, inr, drop, take, arith}
 use Rattle.std.proofs.lemmas.List.{append-nil, take-append-drop}
-use Rattle.pl_events.specs.declared.event.Event.{Event}
 use Rattle.pl_events.specs.declared.event.Stop.TheVariants.{HostPipeFault, NoMemory}
 use Rattle.pl_world.specs.Frames.{frame_of}
 use Rattle.pl_engine.specs.Journal.{run_of, stopped_by}

@@ -1,4 +1,4 @@
-use Rattle.std.proofs.Common.{◌≡◌, ◌≤◌, ℕ, refl, sym, ◌∙◌, subst, arith}
+use Rattle.std.proofs.Common.{◌∙◌, subst, arith}
 use Rattle.pl_model.specs.Run.{Fixed}
 use Rattle.pl_engine.specs.Journal.{run_of}
 use Rattle.pl_engine.specs.Answered.{KeepsWritten}

@@ -1,19 +1,19 @@
-use Rattle.std.proofs.Common.{◌≡◌, ◌≤◌, [], ◌∷◌, ◌++◌, ℕ, List, Option, None, Some, Bool, true, false, length, refl, sym, ◌∙◌, ap, subst, arith, option_map, nat_lt}
+use Rattle.std.proofs.Common.{◌≡◌, [], ◌∷◌, List, true, false, length, refl, sym, ◌∙◌, ap, subst, arith, option_map}
 use Rattle.pl_events.specs.declared.event.Event.{Event}
 use Rattle.pl_events.specs.declared.event.HostEnd.TheVariants.{NoMemory}
 use Rattle.pl_state.specs.declared.entry.Entry.{Entry}
 use Rattle.pl_world.specs.Counts.{Rose}
-use Rattle.pl_model.specs.Run.{Fixed, most_resources}
+use Rattle.pl_model.specs.Run.{Fixed}
 use Rattle.pl_model.specs.Requests.{goal_at, goals_of}
 use Rattle.pl_model.specs.Entries.{entry_if, new_entries}
 use Rattle.pl_model.specs.Due.{NothingDue, has_room, is_post_due, is_ready, result_of}
 use Rattle.pl_engine.specs.Spelled.{host_spelling}
 use Rattle.pl_engine.specs.Journal.{Consistent, end_event, run_of, told_event}
 use Rattle.pl_engine.specs.Kept.{KeepsStored}
-use Rattle.pl_engine.specs.Answered.{Answers, KeepsWritten, urn_of}
+use Rattle.pl_engine.specs.Answered.{KeepsWritten, urn_of}
 use Rattle.pl_engine.specs.Running.{RecordedAs}
 use Rattle.pl_engine.specs.declared.journal.Journal.{Journal}
-use Rattle.pl_engine.proofs.Accepting.{AtRest-answered, IsAwaited, IsAwaited-recorded, IsFree, IsFree-rest, entry-after, idle-after, moved, next-placeable, parent_stands-placeable, ready-after}
+use Rattle.pl_engine.proofs.Accepting.{AtRest-answered, IsAwaited-recorded, IsFree-rest, entry-after, idle-after, moved, next-placeable, parent_stands-placeable, ready-after}
 use Rattle.pl_engine.proofs.Accepting.{Adds-answers, Adds-recorded}
 use Rattle.pl_engine.proofs.Answering.{Written-step}
 use Rattle.pl_engine.proofs.Storing.{Stored-step, or_keeps, run_same}

@@ -1,4 +1,4 @@
-use Rattle.std.proofs.Common.{◌≡◌, ◌++◌, [], ◌∷◌, List, false, refl, sym, ◌∙◌}
+use Rattle.std.proofs.Common.{[], ◌∷◌, false, refl, ◌∙◌}
 use Rattle.pl_events.specs.declared.event.Stop.TheVariants.{TooManyResources}
 use Rattle.pl_engine.specs.Spelled.{host_spelling}
 use Rattle.pl_engine.specs.Journal.{run_of, stop_event}

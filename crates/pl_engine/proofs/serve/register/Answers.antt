@@ -1,5 +1,4 @@
-use Rattle.std.proofs.Common.{◌≡◌, ◌≤◌, [], ◌∷◌, ◌++◌, ℕ, List, Option, None, Some, Bool, true, false, not, refl, sym, ◌∙◌, ap, arith, Err}
-use Rattle.pl_events.specs.declared.event.HostEnd.{HostEnd}
+use Rattle.std.proofs.Common.{not, refl, ap, arith, Err}
 use Rattle.pl_events.specs.declared.event.HostEnd.TheVariants.{BadFrame, NoMemory}
 use Rattle.pl_events.specs.declared.event.Request.TheVariants.{Register}
 use Rattle.pl_model.specs.Saves.{must_save}

@@ -1,4 +1,4 @@
-use Rattle.std.proofs.Common.{◌≡◌, ◌≤◌, true, false, subst, arith}
+use Rattle.std.proofs.Common.{true, false, subst, arith}
 use Rattle.pl_model.specs.Run.{Fixed}
 use Rattle.pl_model.specs.Causes.{has_stop_by, is_answer_fault, is_store_fault}
 use Rattle.pl_engine.specs.Journal.{run_of}

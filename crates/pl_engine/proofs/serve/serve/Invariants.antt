@@ -1,4 +1,4 @@
-use Rattle.std.proofs.Common.{◌≡◌, ◌≤◌, true}
+use Rattle.std.proofs.Common.{◌≤◌, true}
 use Rattle.pl_engine.specs.Journal.{run_of}
 use Rattle.pl_engine.specs.Running.{AtRest, KeepsTaken}
 use Rattle.pl_engine.specs.Caused.{AnswersCaused, StoreCaused}

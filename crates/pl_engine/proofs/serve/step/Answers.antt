@@ -1,12 +1,5 @@
-use Rattle.std.proofs.Common.{◌≡◌, ◌≤◌, [], ◌∷◌, ℕ, List, Option, None, Some, Bool, true, false, not, refl, sym, ◌∙◌, ap, arith, subst}
-use Rattle.pl_events.specs.declared.event.HostEnd.{HostEnd}
+use Rattle.std.proofs.Common.{[], ◌∷◌, Some, false, not, refl, ◌∙◌, ap, arith}
 use Rattle.pl_events.specs.declared.event.HostEnd.TheVariants.{Success}
-use Rattle.pl_events.specs.declared.event.Request.{Request}
-use Rattle.pl_events.specs.declared.event.Request.TheVariants.{Register}
-use Rattle.pl_host_msg.specs.declared.word.HostWord.TheVariants.{Request as Asks}
-use Rattle.pl_host_msg.specs.Word.{word_of}
-use Rattle.pl_world.specs.Frames.{IsBody, frame_of}
-use Rattle.pl_world.specs.Told.{Grew}
 use Rattle.pl_engine.specs.declared.hear.Heard.{Heard}
 use Rattle.pl_model.specs.Saves.{must_save}
 use Rattle.pl_engine.specs.Spelled.{host_spelling}
@@ -18,9 +11,9 @@ use Rattle.pl_engine.proofs.Hearing.{TakenNow-ended, TakenNow-registered, TakenN
 use Rattle.pl_engine.proofs.Storing.{Stored-step, or_keeps}
 use Rattle.pl_engine.proofs.serve.step.Goals as goal
 
-pub register-requires-clause-within : goal.register-requires-clause-within
-register-requires-clause-within g c κs within =
-    within-heard c.in-Ok.field-0.body c.in-Ok.field-0.word c.in-Request.request c.parts-n.result.0 c.parts-n.result.1 c.in-Ok.ensures.heard.word (ap (λ (h : Heard). h.word) c.in-Ok.field-0-is ∙ c.in-Request.is) c.parts-n.ensures
+pub take_up-requires-clause-within : goal.take_up-requires-clause-within
+take_up-requires-clause-within g c κs within = λ n told is.
+    within-heard c.in-Ok.field-0.body c.in-Ok.field-0.word c.in-Request.request n told c.in-Ok.ensures.heard.word (ap (λ (h : Heard). h.word) c.in-Ok.field-0-is ∙ c.in-Request.is) is
 
 pub returns-in-Err-clause-taken : goal.returns-in-Err-clause-taken
 returns-in-Err-clause-taken g c = λ took.
@@ -66,12 +59,12 @@ returns-in-Success-clause-written g c =
 
 pub returns-in-Request-clause-taken : goal.returns-in-Request-clause-taken
 returns-in-Request-clause-taken g c = λ took.
-    TakenNow-registered c.register.result (run_of c.args.journal.now) c.in-Ok.field-0.body (Register c.parts-n.result.0 c.parts-n.result.1) c.args.journal.now c.register.new.journal c.register.new.writing.failed
+    TakenNow-registered c.take_up.result (run_of c.args.journal.now) c.in-Ok.field-0.body c.in-Request.request c.args.journal.now c.take_up.new.journal c.take_up.new.writing.failed
     (g.Q.Pipe.taken c.args.reading.now) (g.Q.Pipe.taken c.hear.new.reading) (g.Q.Pipe.faults c.hear.new.reading) (g.Q.Pipe.ends c.hear.new.reading)
     took c.in-Ok.ensures.heard.body
     (c.in-Ok.ensures.heard.word
-    ∙ ap (λ w. Some w) (ap (λ (h : Heard). h.word) c.in-Ok.field-0-is ∙ c.in-Request.is ∙ ap (λ (r : Request). Asks r) (sym c.parts-n.ensures)))
-    c.in-Ok.ensures.heard.taken c.register.ensures.did
+    ∙ ap (λ w. Some w) (ap (λ (h : Heard). h.word) c.in-Ok.field-0-is ∙ c.in-Request.is))
+    c.in-Ok.ensures.heard.taken c.take_up.ensures.did
 
 pub returns-in-Err-clause-end_caused : goal.returns-in-Err-clause-end_caused
 returns-in-Err-clause-end_caused g c = λ _.
@@ -87,7 +80,7 @@ returns-in-Success-clause-end_caused g c = λ _.
 
 pub returns-in-Request-clause-end_caused : goal.returns-in-Request-clause-end_caused
 returns-in-Request-clause-end_caused g c =
-    EndCaused-registered c.register.result (Register c.parts-n.result.0 c.parts-n.result.1) c.in-Ok.field-0.body (run_of c.args.journal.now)
-    c.args.journal.now c.register.new.journal c.register.new.writing.failed
+    EndCaused-registered c.take_up.result c.in-Request.request c.in-Ok.field-0.body (run_of c.args.journal.now)
+    c.args.journal.now c.take_up.new.journal c.take_up.new.writing.failed
     (g.Q.Pipe.faults c.hear.new.reading) (g.Q.Pipe.ends c.hear.new.reading)
-    c.requires.rest.host_open c.register.ensures.did
+    c.requires.rest.host_open c.take_up.ensures.did

@@ -1,4 +1,4 @@
-use Rattle.std.proofs.Common.{◌≡◌, ℕ, List, Some, map, string_bytes}
+use Rattle.std.proofs.Common.{◌≡◌, Some, map, string_bytes}
 use Rattle.pl_urn.specs.Grammar.{IsScope}
 use Rattle.pl_cli.specs.declared.command.RunWords.{RunWords}
 use Rattle.pl_cli.specs.declared.table.OptionName.TheVariants.{Stack, Project}

@@ -1,4 +1,4 @@
-use Rattle.std.proofs.Common.{◌≡◌, subst}
+use Rattle.std.proofs.Common.{subst}
 use Rattle.pl_world.specs.Told.{IsPresentContent}
 use Rattle.pl_engine.proofs.Beginning.{empty_content}
 use Rattle.pl_engine.proofs.top.read_nothing.Goals as goal

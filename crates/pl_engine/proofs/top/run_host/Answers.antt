@@ -1,4 +1,4 @@
-use Rattle.std.proofs.Common.{◌≡◌, ◌≤◌, [], ◌∷◌, ℕ, List, Option, Some, None, Bool, true, false, reverse, IfSome, refl, sym, ◌∙◌, ap, arith, subst}
+use Rattle.std.proofs.Common.{◌≡◌, ℕ, List, Bool, reverse, IfSome, sym, ◌∙◌, ap, arith, subst}
 use Rattle.pl_state.specs.declared.snapshot.Snapshot.{Snapshot}
 use Rattle.pl_events.specs.declared.event.Event.{Event}
 use Rattle.pl_world.specs.Counts.{Rose}
@@ -6,9 +6,7 @@ use Rattle.pl_model.specs.Run.{Fixed}
 use Rattle.pl_model.specs.HostLines.{HostLines}
 use Rattle.pl_engine.specs.Spelled.{host_spelling}
 use Rattle.pl_engine.specs.Journal.{run_of}
-use Rattle.pl_engine.specs.Stored.{IsKeptUp, Stored}
-use Rattle.pl_engine.specs.Answered.{Written}
-use Rattle.pl_engine.specs.Running.{Over}
+use Rattle.pl_engine.specs.Stored.{IsKeptUp}
 use Rattle.pl_engine.specs.Headline.{IsLegalRun, IsOutcome}
 use Rattle.pl_engine.proofs.Ending.{HostGave-written, IsKeptUp-stored, IsLegalRun-over, IsOutcome-over, Stored-begun, Taken-begun, Written-begun}
 use Rattle.pl_engine.proofs.top.run_host.Goals as goal

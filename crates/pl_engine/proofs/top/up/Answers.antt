@@ -1,4 +1,4 @@
-use Rattle.std.proofs.Common.{◌≡◌, reverse}
+use Rattle.std.proofs.Common.{reverse}
 use Rattle.pl_engine.proofs.Beginning.{saved-earlier}
 use Rattle.pl_engine.proofs.top.up.Goals as goal
 
