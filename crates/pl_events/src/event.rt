@@ -2,6 +2,7 @@ ghost use Rattle.std.specs.Prelude.{◌≡◌, IfOk};
 
 use crate::operation::Op;
 use crate::reply::{Loss, Reply};
+use pl_reference::copy_text;
 use pl_state::Registration;
 use pl_urn::Urn;
 use pl_value::{Bytes, Fields, OutOfMemory, Text};
@@ -214,17 +215,5 @@ impl Answer {
             Answer::Result(fields) => Answer::Result(fields.copy(alloc)?),
             Answer::Refused(text) => Answer::Refused(text.copy()?),
         })
-    }
-}
-
-fn copy_text(text: &Option<Text>) -> Result<Option<Text>, OutOfMemory>
-    ensures { IfOk result (λ made. made ≡ text.now) }
-{
-    match text {
-        None => Ok(None),
-        Some(text) => {
-            let copied = text.copy()?;
-            Ok(Some(copied))
-        }
     }
 }

@@ -89,6 +89,17 @@ impl History {
             .unwrap();
     }
 
+    pub fn copy(&self, alloc: Global) -> Result<History, OutOfMemory>
+        ensures { IfOk result (λ made. made ≡ self.now) }
+    {
+        let mut copied = Vec::new(alloc);
+        for event in &self.events {
+            copied.push(event.copy(alloc)?)?;
+        }
+        copied.reserve(2)?;
+        Ok(History { events: copied })
+    }
+
     /// Gives the events back, the oldest first; takes no memory.
     pub fn into_events(self) -> Vec<Event>
         ensures { reverse result.items ≡ self }

@@ -5,6 +5,8 @@ mod event;
 mod history;
 mod operation;
 mod reply;
+#[cfg(test)]
+mod tests;
 
 pub use event::{Answer, Event, HostEnd, Request, Stop, What};
 pub use history::History;

@@ -101,6 +101,46 @@ pub enum Ask {
     },
 }
 
+impl Ask {
+    pub fn copy(&self, alloc: Global) -> Result<Ask, OutOfMemory>
+        ensures { IfOk result (λ made. made ≡ self.now) }
+    {
+        match self {
+            Ask::CheckConfig { urn, inputs, old } => copy_check_config(urn, inputs, old, alloc),
+            Ask::Configure { inputs } => copy_configure(inputs, alloc),
+            Ask::Check { urn, inputs, old } => copy_check(urn, inputs, old, alloc),
+            Ask::Diff {
+                urn,
+                id,
+                old_inputs,
+                old_outputs,
+                inputs,
+            } => copy_diff(urn, id, old_inputs, old_outputs, inputs, alloc),
+            Ask::Create { urn, inputs } => copy_create(urn, inputs, alloc),
+            Ask::Update {
+                urn,
+                id,
+                old_inputs,
+                old_outputs,
+                inputs,
+            } => copy_update(urn, id, old_inputs, old_outputs, inputs, alloc),
+            Ask::Delete {
+                urn,
+                id,
+                inputs,
+                outputs,
+            } => copy_delete(urn, id, inputs, outputs, alloc),
+            Ask::Read {
+                urn,
+                id,
+                inputs,
+                outputs,
+            } => copy_read(urn, id, inputs, outputs, alloc),
+            Ask::Invoke { token, args } => copy_invoke(token, args, alloc),
+        }
+    }
+}
+
 /// The places of the provider children, as the choice of due work sees them.
 pub trait LaneView {
     /// The least configured child of this source that is neither at work nor lost.
@@ -126,4 +166,132 @@ pub(crate) fn copy_fields(
             Ok(Some(copied))
         }
     }
+}
+
+fn copy_check_config(
+    urn: &Urn,
+    inputs: &Fields,
+    old: &Option<Fields>,
+    alloc: Global,
+) -> Result<Ask, OutOfMemory>
+    ensures { IfOk result (λ made. made ≡ Ask.CheckConfig urn.now inputs.now old.now) }
+{
+    Ok(Ask::CheckConfig {
+        urn: urn.copy()?,
+        inputs: inputs.copy(alloc)?,
+        old: copy_fields(old, alloc)?,
+    })
+}
+
+fn copy_configure(inputs: &Fields, alloc: Global) -> Result<Ask, OutOfMemory>
+    ensures { IfOk result (λ made. made ≡ Ask.Configure inputs.now) }
+{
+    Ok(Ask::Configure {
+        inputs: inputs.copy(alloc)?,
+    })
+}
+
+fn copy_check(
+    urn: &Urn,
+    inputs: &Fields,
+    old: &Option<Fields>,
+    alloc: Global,
+) -> Result<Ask, OutOfMemory>
+    ensures { IfOk result (λ made. made ≡ Ask.Check urn.now inputs.now old.now) }
+{
+    Ok(Ask::Check {
+        urn: urn.copy()?,
+        inputs: inputs.copy(alloc)?,
+        old: copy_fields(old, alloc)?,
+    })
+}
+
+fn copy_diff(
+    urn: &Urn,
+    id: &Text,
+    old_inputs: &Fields,
+    old_outputs: &Fields,
+    inputs: &Fields,
+    alloc: Global,
+) -> Result<Ask, OutOfMemory>
+    ensures { IfOk result (λ made. made ≡ Ask.Diff urn.now id.now old_inputs.now old_outputs.now inputs.now) }
+{
+    Ok(Ask::Diff {
+        urn: urn.copy()?,
+        id: id.copy()?,
+        old_inputs: old_inputs.copy(alloc)?,
+        old_outputs: old_outputs.copy(alloc)?,
+        inputs: inputs.copy(alloc)?,
+    })
+}
+
+fn copy_create(urn: &Urn, inputs: &Fields, alloc: Global) -> Result<Ask, OutOfMemory>
+    ensures { IfOk result (λ made. made ≡ Ask.Create urn.now inputs.now) }
+{
+    Ok(Ask::Create {
+        urn: urn.copy()?,
+        inputs: inputs.copy(alloc)?,
+    })
+}
+
+fn copy_update(
+    urn: &Urn,
+    id: &Text,
+    old_inputs: &Fields,
+    old_outputs: &Fields,
+    inputs: &Fields,
+    alloc: Global,
+) -> Result<Ask, OutOfMemory>
+    ensures { IfOk result (λ made. made ≡ Ask.Update urn.now id.now old_inputs.now old_outputs.now inputs.now) }
+{
+    Ok(Ask::Update {
+        urn: urn.copy()?,
+        id: id.copy()?,
+        old_inputs: old_inputs.copy(alloc)?,
+        old_outputs: old_outputs.copy(alloc)?,
+        inputs: inputs.copy(alloc)?,
+    })
+}
+
+fn copy_delete(
+    urn: &Urn,
+    id: &Text,
+    inputs: &Fields,
+    outputs: &Fields,
+    alloc: Global,
+) -> Result<Ask, OutOfMemory>
+    ensures { IfOk result (λ made. made ≡ Ask.Delete urn.now id.now inputs.now outputs.now) }
+{
+    Ok(Ask::Delete {
+        urn: urn.copy()?,
+        id: id.copy()?,
+        inputs: inputs.copy(alloc)?,
+        outputs: outputs.copy(alloc)?,
+    })
+}
+
+fn copy_read(
+    urn: &Urn,
+    id: &Text,
+    inputs: &Fields,
+    outputs: &Fields,
+    alloc: Global,
+) -> Result<Ask, OutOfMemory>
+    ensures { IfOk result (λ made. made ≡ Ask.Read urn.now id.now inputs.now outputs.now) }
+{
+    Ok(Ask::Read {
+        urn: urn.copy()?,
+        id: id.copy()?,
+        inputs: inputs.copy(alloc)?,
+        outputs: outputs.copy(alloc)?,
+    })
+}
+
+fn copy_invoke(token: &Text, args: &Fields, alloc: Global) -> Result<Ask, OutOfMemory>
+    ensures { IfOk result (λ made. made ≡ Ask.Invoke token.now args.now) }
+{
+    Ok(Ask::Invoke {
+        token: token.copy()?,
+        args: args.copy(alloc)?,
+    })
 }

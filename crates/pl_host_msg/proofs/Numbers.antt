@@ -1,6 +1,9 @@
 -- What a caller knows of a word that was read.
-use Rattle.std.proofs.Common.{◌≡◌, ℕ, ◌^◌, ◌≤◌, ◌&&◌, nat_le, cond, List, codes, Bool, true, false, Option, Some, None, option_map, option_and_then, refl, sym, ap, ◌∙◌, arith, tests}
+use Rattle.std.proofs.Common.{◌≡◌, ℕ, ◌^◌, ◌≤◌, ◌&&◌, not, nat_eq, nat_le, cond, List, codes, Bool, true, false, Option, Some, None, option_map, option_and_then, refl, sym, ap, ◌∙◌, arith, tests}
+use Rattle.std.proofs.lemmas.Bool.{not-true}
+use Rattle.std.specs.List.{starts_with}
 use Rattle.serde_json.specs.Data.{Data}
+use Rattle.pl_state.specs.Component.{plain_registration}
 use Rattle.pl_state.specs.declared.goal.Registration.{Registration}
 use Rattle.pl_events.specs.declared.event.Request.{Request}
 use Rattle.pl_events.specs.declared.event.Request.TheVariants.{Register}
@@ -52,3 +55,35 @@ word_number_in_range bytes n told e =
     let called = both_steps _ (text (field (codes "call") read.0)) _ read.2 in
     let request = request_called _ _ (register_of read.0) (Register n told) called.2 in
     request_number_in_range (field (codes "n") read.0) n (register_of-number read.0 n told request)
+
+-- the type of a registration that was read is the one that its message has
+same_kind : (b : Bool) (n m : ℕ) (kind name : List ℕ) (parent : Option (List ℕ)) (told : Registration)
+    → cond b (Some (Register n (plain_registration kind name parent))) None ≡ Some (Register m told) → kind ≡ told.kind
+same_kind true n m kind name parent told e =
+    let same : plain_registration kind name parent ≡ told = cc in ap (λ (one : Registration). one.kind) same
+same_kind false n m kind name parent told e = absurd cc
+
+register_of-kind : (message : Data) (n : ℕ) (told : Registration) → register_of message ≡ Some (Register n told) → plain_type (field (codes "type") message) ≡ Some told.kind
+unfolding register_of
+register_of-kind message n told e =
+    let number = both_steps _ (request_number (field (codes "n") message)) _ e in
+    let kind = both_steps _ (plain_type (field (codes "type") message)) _ number.2 in
+    let name = both_steps _ (text (field (codes "name") message)) _ kind.2 in
+    let parent = both_steps _ (optional_text (field (codes "parent") message)) _ name.2 in
+    kind.1 ∙ ap Some (same_kind (has_defaults message) number.0 n kind.0 name.0 parent.0 told parent.2)
+
+plain_type-other : (value : Option Data) (kind : List ℕ) → plain_type value ≡ Some kind → starts_with nat_eq kind (codes "pulumi:providers:") ≡ false
+plain_type-other value kind e =
+    let step = both_steps (if_passing (λ kind. not (starts_with nat_eq kind (codes "pulumi:providers:")))) (text value) kind e in
+    not-true (starts_with nat_eq kind (codes "pulumi:providers:"))
+    (passed (λ kind. not (starts_with nat_eq kind (codes "pulumi:providers:"))) _ step.0 kind refl step.2)
+
+-- the type of a registration that was read is no provider's
+pub word_type_plain : (bytes : List ℕ) (n : ℕ) (told : Registration) → word_of bytes ≡ Some (Asks (Register n told))
+    → starts_with nat_eq told.kind (codes "pulumi:providers:") ≡ false
+unfolding word_of word_of_data
+word_type_plain bytes n told e =
+    let read = both_steps word_of_data (json_of bytes) _ e in
+    let called = both_steps _ (text (field (codes "call") read.0)) _ read.2 in
+    let request = request_called _ _ (register_of read.0) (Register n told) called.2 in
+    plain_type-other (field (codes "type") read.0) told.kind (register_of-kind read.0 n told request)

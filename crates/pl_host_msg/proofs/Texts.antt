@@ -7,7 +7,8 @@ use Rattle.serde_json.proofs.OnLiterals.{serde_json_on_literals}
 use Rattle.pl_json.proofs.NoFloat.{has_float-spelled_members}
 use Rattle.pl_events.specs.declared.event.Answer.{Answer}
 use Rattle.pl_events.specs.declared.event.Answer.TheVariants.{Registered, Noted, Result, Refused}
-use Rattle.pl_host_msg.specs.Answer.{answer_data, answer_text, halted, longest_body}
+use Rattle.pl_events.specs.Halted.{halted}
+use Rattle.pl_host_msg.specs.Answer.{answer_data, answer_text, longest_body}
 
 -- an answer holds no float
 pub has_float-answer_data : (n : ℕ) (answer : Answer) → has_float (answer_data n answer) ≡ false

@@ -1,6 +1,6 @@
 -- The text of an answer to a host.
 use Rattle.std.specs.Prelude.{ℕ, List, [], ◌∷◌, Option, Some, None, codes, ⊤}
-use Rattle.pl_json.specs.Spelled.{spelled_fields}
+use Rattle.pl_json.specs.Spelled.{members_of, spelled_fields}
 use Rattle.serde_json.specs.Data.{Data, number, unsigned, string, object, Members, no_members, member}
 use Rattle.serde_json.specs.Written.{compact_text}
 use Rattle.pl_world.specs.declared.frames.TheConstants.{MAX_BODY}
@@ -12,10 +12,6 @@ use Rattle.pl_host_msg.specs.declared.answer.MsgOut.TheVariants.{TooLong, OutOfM
 -- how many bytes the body of a frame may have
 abbrev pub longest_body : ℕ
 longest_body = MAX_BODY
-
-abbrev pub members_of : List (List ℕ × Data) → Members
-members_of [] = no_members
-members_of (m ∷ ms) = member m.0 m.1 (members_of ms)
 
 -- the object with these members, whose names rise
 abbrev pub object_of : List (List ℕ × Data) → Data
@@ -40,10 +36,6 @@ answer_data n (Refused error) = object_of ((codes "error", string error) ∷ (co
 -- the bytes of the answer to request n
 unfoldable pub answer_text : ℕ → Answer → List ℕ
 answer_text n answer = compact_text (answer_data n answer)
-
--- the error of a request that the run no longer takes up
-abbrev pub halted : Answer
-halted = Refused (codes "halted")
 
 -- the fact, of the length, where a text was refused for it
 abbrev pub IfTooLong : MsgOut → (ℕ → Type 0) → Type 0

@@ -1,7 +1,8 @@
 ghost use Rattle.std.specs.Prelude.{◌≡◌, ◌<◌, ◌≤◌, IfErr, IfOk, length};
 ghost use Rattle.serde_json.specs.Data.{object};
 ghost use Rattle.serde_json.specs.View.{members_view, view};
-ghost use Rattle.pl_host_msg.specs.Answer.{answer_data, answer_text, halted, IfTooLong, longest_body, ok_data};
+ghost use Rattle.pl_events.specs.Halted.{halted};
+ghost use Rattle.pl_host_msg.specs.Answer.{answer_data, answer_text, IfTooLong, longest_body, ok_data};
 
 use pl_events::Answer;
 use pl_json::spell_fields;

@@ -1,4 +1,5 @@
+pub mod Chain
 pub mod Component
-pub mod Reference
+pub mod Kinds
 pub mod Seen
 pub mod Sound

@@ -8,7 +8,7 @@ use Rattle.std.specs.Ordering.{is_eq, nat_cmp, ordering_then}
 use Rattle.pl_state.specs.declared.entry.Entry.{Entry}
 use Rattle.pl_state.specs.declared.fault.Missing.{Missing}
 use Rattle.pl_state.specs.declared.fault.Missing.TheVariants.{Twice, Parent, Provider, Dependency}
-use Rattle.pl_state.specs.declared.reference.ProviderRef.{ProviderRef}
+use Rattle.pl_reference.specs.declared.reference.ProviderRef.{ProviderRef}
 use Rattle.pl_state.specs.declared.seen.Seen.{Seen}
 use Rattle.pl_state.specs.Sound.{has_urn, is_provider, keeps_urn}
 

@@ -7,7 +7,7 @@ use Rattle.pl_state.specs.declared.fault.Missing.{Missing}
 use Rattle.pl_state.specs.declared.fault.Missing.TheVariants.{Twice, Parent, Provider, Dependency}
 use Rattle.pl_state.specs.declared.fault.UnsoundOrMemory.{UnsoundOrMemory}
 use Rattle.pl_state.specs.declared.fault.UnsoundOrMemory.TheVariants.{Unsound, OutOfMemory}
-use Rattle.pl_state.specs.declared.reference.ProviderRef.{ProviderRef}
+use Rattle.pl_reference.specs.declared.reference.ProviderRef.{ProviderRef}
 
 -- whether a row has this URN
 abbrev pub has_urn : List ℕ → Entry → Bool

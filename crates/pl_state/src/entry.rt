@@ -1,10 +1,7 @@
 ghost use Rattle.std.specs.Prelude.{◌≡◌, IfOk};
 ghost use Rattle.pl_state.specs.Component.{component_entry};
 
-use crate::copies::{copy_reference, copy_text, copy_urn};
-use crate::keyed::KeyedUrns;
-use crate::reference::ProviderRef;
-use crate::urns::Urns;
+use pl_reference::{KeyedUrns, ProviderRef, Urns, copy_reference, copy_text, copy_urn};
 use pl_urn::Urn;
 use pl_value::{Fields, OutOfMemory, Text, Texts};
 use std::alloc::Global;

@@ -1,6 +1,6 @@
 ghost use Rattle.std.specs.Prelude.{◌≡◌, IfOk};
 
-use crate::reference::ProviderRef;
+use pl_reference::ProviderRef;
 use pl_urn::Urn;
 use pl_value::{JsonFault, OutOfMemory, Text};
 use thiserror::Error;
@@ -119,4 +119,21 @@ pub enum BadCheckpoint {
     TooMany(u64),
     #[error("a row refers to what does not stand before it")]
     Unsound(Unsound),
+}
+
+impl BadCheckpoint {
+    pub fn copy(&self) -> Result<BadCheckpoint, OutOfMemory>
+        ensures { IfOk result (λ made. made ≡ self.now) }
+    {
+        Ok(match self {
+            BadCheckpoint::NotJson => BadCheckpoint::NotJson,
+            BadCheckpoint::NotVersion3(text) => BadCheckpoint::NotVersion3(text.copy()?),
+            BadCheckpoint::MissingField(path) => BadCheckpoint::MissingField(path.copy()?),
+            BadCheckpoint::WrongKind(path) => BadCheckpoint::WrongKind(path.copy()?),
+            BadCheckpoint::BadUrn(path) => BadCheckpoint::BadUrn(path.copy()?),
+            BadCheckpoint::BadValue(fault) => BadCheckpoint::BadValue(fault.copy()?),
+            BadCheckpoint::TooMany(number) => BadCheckpoint::TooMany(*number),
+            BadCheckpoint::Unsound(fault) => BadCheckpoint::Unsound(fault.copy()?),
+        })
+    }
 }

@@ -1,9 +1,7 @@
 ghost use Rattle.std.specs.Prelude.{◌≡◌, [], ◌∷◌, ◌++◌, IfOk, length, OnErr, OnOk, option_map, slice_get};
 ghost use Rattle.pl_state.specs.Component.{has_no_flags, has_no_lists, has_no_names, is_plain, plain_registration};
 
-use crate::copies::{copy_text, copy_urn};
-use crate::keyed::{KeyedTexts, KeyedUrns};
-use crate::urns::Urns;
+use pl_reference::{KeyedTexts, KeyedUrns, Urns, copy_text, copy_urn};
 use pl_urn::Urn;
 use pl_value::{Fields, OutOfMemory, Text, Texts};
 use std::alloc::Global;

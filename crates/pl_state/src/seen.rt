@@ -3,13 +3,13 @@ ghost use Rattle.std.specs.Option.{option_copied};
 ghost use Rattle.std.specs.Str.{bytes_eq};
 ghost use Rattle.pl_state.specs.declared.fault.Missing.{Missing};
 ghost use Rattle.pl_state.specs.declared.fault.Missing.TheVariants.{Dependency, Parent, Provider};
-ghost use Rattle.pl_state.specs.declared.reference.ProviderRef.{ProviderRef};
+ghost use Rattle.pl_reference.specs.declared.reference.ProviderRef.{ProviderRef};
 ghost use Rattle.pl_state.specs.Seen.{gives, has_pair, has_text, HasOneMore};
 ghost use Rattle.pl_state.specs.Sound.{first_unmet, is_met, is_provider, keeps_urn, optional_wants, own_wants, property_urns};
 
 use crate::entry::Entry;
 use crate::fault::Missing;
-use crate::reference::ProviderRef;
+use pl_reference::ProviderRef;
 use pl_urn::Urn;
 use pl_value::OutOfMemory;
 use std::alloc::Global;

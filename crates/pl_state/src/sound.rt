@@ -6,8 +6,8 @@ ghost use Rattle.pl_state.specs.Sound.{finds_all, has_urn, is_met, is_provider, 
 use crate::entries::Entries;
 use crate::entry::Entry;
 use crate::fault::{Unsound, UnsoundOrMemory};
-use crate::reference::ProviderRef;
 use crate::seen::Seen;
+use pl_reference::ProviderRef;
 use pl_urn::Urn;
 use std::alloc::Global;
 

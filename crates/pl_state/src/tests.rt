@@ -1,57 +1,13 @@
 use crate::entries::Entries;
 use crate::entry::Entry;
 use crate::fault::{Missing, UnsoundOrMemory};
-use crate::reference::{ProviderRef, read_ref};
 use crate::sound::{fault_of, is_sound};
-use crate::urns::Urns;
+use pl_reference::{ProviderRef, Urns};
 use pl_urn::Urn;
 use pl_value::Text;
 use std::alloc::Global;
 use std::process::Abort;
 use std::test::Fail;
-
-fn shown_reference(alloc: Global, text: &str) -> Result<String, Fail> {
-    match read_ref(alloc, text) {
-        Ok(made) => {
-            let (urn, id) = (made.urn.as_str(), made.id.as_str());
-            Ok(format!(in alloc; "{urn} {id}")?)
-        }
-        Err(fault) => Ok(format!(in alloc; "{fault}")?),
-    }
-}
-
-#[test]
-fn references_are_read(rt: HostRuntime) -> Result<(), Fail> {
-    let none = "no provider reference";
-    for (text, want) in [
-        (
-            "urn:pulumi:dev::web::pulumi:providers:aws::east::id-7",
-            "urn:pulumi:dev::web::pulumi:providers:aws::east id-7",
-        ),
-        (
-            "urn:pulumi:dev::web::pulumi:providers:aws::a::b::7",
-            "urn:pulumi:dev::web::pulumi:providers:aws::a::b 7",
-        ),
-        (
-            "urn:pulumi:dev::web::my:i:Site$pulumi:providers:aws::a:::7",
-            "urn:pulumi:dev::web::my:i:Site$pulumi:providers:aws::a: 7",
-        ),
-        ("", none),
-        ("urn:pulumi:dev::web::pulumi:providers:aws::east", none),
-        ("urn:pulumi:dev::web::pulumi:providers:aws::east::", none),
-        ("urn:pulumi:dev::web::aws:s3:Bucket::b::7", none),
-        (
-            "urn:pulumi:dev::web::pulumi:providers:aws$aws:s3:Bucket::b::7",
-            none,
-        ),
-    ] {
-        assert!(rt;
-            shown_reference(rt.alloc(), text)?.as_str() == want,
-            "at {text}"
-        );
-    }
-    Ok(())
-}
 
 fn urn(alloc: Global, name: &str) -> Result<Urn, Fail> {
     let text = format!(in alloc; "urn:pulumi:dev::web::t:i:T::{name}")?;
@@ -137,7 +93,6 @@ fn shown(alloc: Global, rows: &Entries) -> Result<String, Fail> {
 fn first_faults(rt: HostRuntime) -> Result<(), Fail> {
     let alloc = rt.alloc();
     for (text, at, want) in [
-        ("child parent=top;top", Some(0), "0 parent top"),
         ("top;child parent=top", None, "sound"),
         ("a;b;a", Some(2), "2 twice a"),
         ("a doomed=;a;a doomed=", None, "sound"),
@@ -153,5 +108,41 @@ fn first_faults(rt: HostRuntime) -> Result<(), Fail> {
         assert!(rt; fault_of(&rows) == at, "at {text}");
         assert!(rt; shown(alloc, &rows)?.as_str() == want, "at {text}");
     }
+    Ok(())
+}
+
+const STACK: &str = "urn:pulumi:dev::web::pulumi:pulumi:Stack::web-dev";
+
+fn component(alloc: Global, urn: &str, kind: &str, parent: Option<Urn>) -> Result<Entry, Fail> {
+    let urn = pl_urn::parse(alloc, urn)?;
+    let kind = Text::from_str(alloc, kind)?;
+    Ok(Entry::component(alloc, urn, kind, parent)?)
+}
+
+fn child_before_stack(alloc: Global) -> Result<Entries, Fail> {
+    let stack = pl_urn::parse(alloc, STACK)?;
+    let site = "urn:pulumi:dev::web::my:index:Site::s";
+    let mut rows = Entries::new(alloc);
+    rows.push(component(alloc, site, "my:index:Site", Some(stack))?)?;
+    rows.push(component(alloc, STACK, "pulumi:pulumi:Stack", None)?)?;
+    Ok(rows)
+}
+
+fn misses_parent_first(alloc: Global, rows: &Entries, at: u64, parent: &str) -> bool {
+    match is_sound(alloc, rows) {
+        Err(UnsoundOrMemory::Unsound(fault)) => match &fault.missing {
+            Missing::Parent(urn) => fault.at == at && urn.as_str() == parent,
+            _ => false,
+        },
+        _ => false,
+    }
+}
+
+#[test]
+fn parent_after_child_is_unsound(rt: HostRuntime) -> Result<(), Fail> {
+    let alloc = rt.alloc();
+    let rows = child_before_stack(alloc)?;
+    assert!(rt; fault_of(&rows) == Some(0));
+    assert!(rt; misses_parent_first(alloc, &rows, 0, STACK));
     Ok(())
 }

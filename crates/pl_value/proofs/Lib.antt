@@ -5,3 +5,4 @@ pub mod Marked
 pub mod Masked
 pub mod Merging
 pub mod Rising
+pub mod SameTells

@@ -3,11 +3,9 @@ ghost use Rattle.pl_value.specs.Changed.{IsChanged, first_of};
 ghost use Rattle.pl_value.specs.Keys.{are_rising};
 
 use crate::fields::Fields;
-use crate::memory::OutOfMemory;
 use crate::sound::rest;
-use crate::text::Text;
-use crate::texts::Texts;
 use crate::value::Value;
+use pl_text::{OutOfMemory, Text, Texts};
 use std::alloc::Global;
 use std::cmp::Ordering;
 

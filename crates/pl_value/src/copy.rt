@@ -1,8 +1,7 @@
 ghost use Rattle.std.specs.Prelude.{◌≡◌, IfOk};
 
-use crate::memory::OutOfMemory;
-use crate::text::Text;
 use crate::value::Value;
+use pl_text::{OutOfMemory, Text};
 use sqlite_items::{Boxed, Items};
 use std::alloc::Global;
 

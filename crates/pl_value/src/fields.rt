@@ -4,10 +4,9 @@ ghost use Rattle.pl_value.specs.IsValue.{IsValue, AreFields, may_stand_under};
 ghost use Rattle.pl_value.specs.Keys.{are_all_below, value_at};
 
 use crate::copy::copy_fields;
-use crate::memory::OutOfMemory;
 use crate::sound::is_text_below;
-use crate::text::Text;
 use crate::value::Value;
+use pl_text::{OutOfMemory, Text};
 use sqlite_items::Items;
 use std::alloc::Global;
 use std::marker::Model;

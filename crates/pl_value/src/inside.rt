@@ -1,8 +1,8 @@
 ghost use Rattle.std.specs.Prelude.{◌≡◌, ◌-◌, ◌^◌, min};
 ghost use Rattle.pl_value.specs.Inside as spec;
 
-use crate::text::Text;
 use crate::value::Value;
+use pl_text::Text;
 
 #[cycle(unknown)]
 pub fn has_unknown(value: &Value) -> bool

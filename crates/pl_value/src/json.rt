@@ -1,4 +1,6 @@
-use crate::text::Text;
+ghost use Rattle.std.specs.Prelude.{◌≡◌, IfOk};
+
+use pl_text::{OutOfMemory, Text};
 use thiserror::Error;
 
 /// Why a JSON value is no property value. The text is the path of the faulty value: the keys from the
@@ -19,4 +21,18 @@ pub enum JsonFault {
     TooDeep(Text),
     #[error("out of memory")]
     OutOfMemory,
+}
+
+impl JsonFault {
+    pub fn copy(&self) -> Result<JsonFault, OutOfMemory>
+        ensures { IfOk result (λ made. made ≡ self.now) }
+    {
+        Ok(match self {
+            JsonFault::NotWhole(path) => JsonFault::NotWhole(path.copy()?),
+            JsonFault::SecretSealed(path) => JsonFault::SecretSealed(path.copy()?),
+            JsonFault::BadSecret(path) => JsonFault::BadSecret(path.copy()?),
+            JsonFault::TooDeep(path) => JsonFault::TooDeep(path.copy()?),
+            JsonFault::OutOfMemory => JsonFault::OutOfMemory,
+        })
+    }
 }

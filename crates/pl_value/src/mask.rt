@@ -2,9 +2,8 @@ ghost use Rattle.std.specs.Prelude.{◌≡◌, IfOk, map};
 ghost use Rattle.pl_value.specs.Shown as spec;
 
 use crate::marks::shown_secret;
-use crate::memory::OutOfMemory;
-use crate::text::Text;
 use crate::value::Value;
+use pl_text::{OutOfMemory, Text};
 use sqlite_items::Items;
 use std::alloc::Global;
 

@@ -1,7 +1,7 @@
 ghost use Rattle.std.specs.Prelude.{◌≡◌, ◌↔◌, IsTrue};
 
-use crate::text::Text;
 use crate::value::Value;
+use pl_text::Text;
 
 #[cycle(same)]
 pub fn same(a: &Value, b: &Value) -> bool

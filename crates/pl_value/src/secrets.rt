@@ -5,10 +5,8 @@ ghost use Rattle.pl_value.specs.Secrets as spec;
 use crate::copy::copy;
 use crate::fields::Fields;
 use crate::marks::secret_key;
-use crate::memory::OutOfMemory;
-use crate::text::Text;
-use crate::texts::Texts;
 use crate::value::Value;
+use pl_text::{OutOfMemory, Text, Texts};
 use sqlite_items::{Boxed, Items};
 use std::alloc::Global;
 

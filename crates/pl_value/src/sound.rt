@@ -3,8 +3,8 @@ ghost use Rattle.pl_value.specs.IsValue as spec;
 ghost use Rattle.pl_value.specs.Keys as keys;
 
 use crate::marks::{secret_key, secret_mark, unknown_text};
-use crate::text::Text;
 use crate::value::Value;
+use pl_text::Text;
 use std::cmp::Ordering;
 
 #[cycle(sound)]

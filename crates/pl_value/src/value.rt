@@ -7,11 +7,10 @@ use crate::copy::copy;
 use crate::fields::Fields;
 use crate::inside;
 use crate::mask::masked;
-use crate::memory::OutOfMemory;
 use crate::same::same;
 use crate::sound::is_value;
-use crate::text::Text;
 use crate::values::Values;
+use pl_text::{OutOfMemory, Text};
 use sqlite_items::{Boxed, Items};
 use std::alloc::Global;
 

@@ -3,8 +3,8 @@ ghost use Rattle.std.specs.Option.{option_copied};
 ghost use Rattle.pl_value.specs.IsValue.{IsValue, AreValues};
 
 use crate::copy::copy_values;
-use crate::memory::OutOfMemory;
 use crate::value::Value;
+use pl_text::OutOfMemory;
 use sqlite_items::Items;
 use std::alloc::Global;
 use std::marker::Model;

@@ -1,5 +1,6 @@
 use Rattle.std.proofs.Common.{◌≡◌, ◌≤◌, ◌∙◌, subst, sym, List, ℕ, length}
-use Rattle.pl_host_msg.specs.Answer.{answer_text, halted, longest_body}
+use Rattle.pl_events.specs.Halted.{halted}
+use Rattle.pl_host_msg.specs.Answer.{answer_text, longest_body}
 use Rattle.pl_host_msg.proofs.Texts.{answer_text_from, halted_fits}
 use Rattle.pl_host_msg.proofs.answer.halted_bytes.Goals as goal
 

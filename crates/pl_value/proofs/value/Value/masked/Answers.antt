@@ -1,7 +1,7 @@
 use Rattle.std.proofs.Common.{◌≡◌, true, Result, Ok, Err, IfOk, ap, ◌∙◌}
 use Rattle.pl_value.specs.IsValue.{IsValue, is_value}
 use Rattle.pl_value.specs.Shown.{masked}
-use Rattle.pl_value.specs.declared.memory.OutOfMemory.{OutOfMemory}
+use Rattle.pl_text.specs.declared.memory.OutOfMemory.{OutOfMemory}
 use Rattle.pl_value.specs.declared.value.Value.{Value}
 use Rattle.pl_value.proofs.Masked.{is_value-masked}
 use Rattle.pl_value.proofs.value.Value.masked.Goals as goal

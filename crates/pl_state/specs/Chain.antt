@@ -1,0 +1,65 @@
+-- Which rows refer to a row, directly or through others, and which row is that of a row's provider.
+use Rattle.std.specs.Prelude.{ℕ, zero, suc, Bool, false, ◌&&◌, ◌||◌, if◌then◌else◌, length, nat_lt, option_and_then, slice_get, take, Option, None, Some, List, [], ◌∷◌, ◌++◌}
+use Rattle.std.specs.List.{list_any}
+use Rattle.pl_state.specs.declared.entry.Entry.{Entry}
+use Rattle.pl_reference.specs.declared.reference.ProviderRef.{ProviderRef}
+use Rattle.pl_state.specs.Sound.{has_urn, is_provider}
+
+-- whether something is there and passes the test
+abbrev pub some_passes : {X : Type 0} → (X → Bool) → Option X → Bool
+some_passes test None = false
+some_passes test (Some x) = test x
+
+-- whether one of the first row's references is met by the second, wherever the two stand
+abbrev pub names_row : Entry → Entry → Bool
+names_row row other =
+    some_passes (λ urn. has_urn urn other) row.parent
+    || some_passes (λ reference. is_provider reference other) row.provider
+    || list_any (λ urn. has_urn urn other) row.dependencies
+    || list_any (λ pair. list_any (λ urn. has_urn urn other) pair.1) row.property_dependencies
+
+-- whether the row at the first place refers to the one at the second, which has to stand before it
+abbrev pub refers_to : List Entry → ℕ → ℕ → Bool
+refers_to rows later earlier =
+    nat_lt earlier later
+    && some_passes (λ row. some_passes (names_row row) (slice_get rows earlier)) (slice_get rows later)
+
+-- whether a row is in the chain of the row at a place: it refers to that row or to one of the chain
+-- before it
+abbrev pub joins : List Entry → ℕ → List ℕ → ℕ → Bool
+joins rows at chain place = refers_to rows place at || list_any (refers_to rows place) chain
+
+-- a chain, with a row at its end if the row is in it
+abbrev pub chain_with : List Entry → ℕ → List ℕ → ℕ → List ℕ
+chain_with rows at chain place = if joins rows at chain place then chain ++ place ∷ [] else chain
+
+-- the chain of the row at a place among the first rows, whose number is given
+abbrev pub chain_among : List Entry → ℕ → ℕ → List ℕ
+chain_among rows at zero = []
+chain_among rows at (suc count) = chain_with rows at (chain_among rows at count) count
+
+-- the places of all rows that refer to the row at a place, directly or through others, rising
+abbrev pub chain_of : List Entry → ℕ → List ℕ
+chain_of rows at = chain_among rows at (length rows)
+
+-- the place found, or else the given one if it is one
+abbrev pub or_else_place : Option ℕ → Bool → ℕ → Option ℕ
+or_else_place (Some later) here place = Some later
+or_else_place None here place = if here then Some place else None
+
+-- the place of the last row that passes a test, the first row's place being given
+abbrev pub last_from : (Entry → Bool) → ℕ → List Entry → Option ℕ
+last_from test place [] = None
+last_from test place (row ∷ rows) = or_else_place (last_from test (suc place) rows) (test row) place
+
+-- the place of the last row that passes a test
+abbrev pub last_place : (Entry → Bool) → List Entry → Option ℕ
+last_place test rows = last_from test 0 rows
+
+-- the place of the last row that is the provider of a reference, if there is a reference
+abbrev pub last_provider : Option ProviderRef → List Entry → Option ℕ
+last_provider reference rows = option_and_then (λ named. last_place (is_provider named) rows) reference
+
+-- the place of the provider of the row at a place: the last row before it that its reference names
+abbrev pub provider_row_of : List Entry → ℕ → Option ℕ
+provider_row_of rows at = option_and_then (λ row. last_provider row.provider (take at rows)) (slice_get rows at)

@@ -1,0 +1,56 @@
+-- What kind of thing a row or a goal is.
+use Rattle.std.specs.Prelude.{ℕ, Bool, not, ◌&&◌, ◌||◌, ◌==◌, if◌then◌else◌, is_some, Option, None, Some, List, codes}
+use Rattle.std.specs.List.{starts_with}
+use Rattle.std.specs.Str.{bytes_eq}
+use Rattle.pl_urn.specs.Grammar.{own_type_of, name_of, provider_prefix}
+use Rattle.pl_state.specs.declared.entry.Entry.{Entry}
+use Rattle.pl_state.specs.declared.goal.Goal.{Goal}
+
+-- whether a URN is that of a provider: by its own type, whatever else is said of it
+abbrev pub is_of_provider : List ℕ → Bool
+is_of_provider urn = starts_with (λ a b. a == b) (own_type_of urn) provider_prefix
+
+-- whether a name is that of a default provider
+abbrev pub is_default_name : List ℕ → Bool
+is_default_name name = bytes_eq name (codes "default") || starts_with (λ a b. a == b) name (codes "default_")
+
+-- whether a URN is that of a default provider
+abbrev pub is_of_default : List ℕ → Bool
+is_of_default urn = is_of_provider urn && is_default_name (name_of urn)
+
+-- whether a goal is a provider
+abbrev pub is_provider_goal : Goal → Bool
+is_provider_goal goal = is_of_provider goal.urn
+
+-- whether a row is a provider
+abbrev pub is_provider_row : Entry → Bool
+is_provider_row row = is_of_provider row.urn
+
+-- a component is neither custom nor a provider
+abbrev pub is_component : Goal → Bool
+is_component goal = not goal.custom && not (is_provider_goal goal)
+
+-- the same of a row
+abbrev pub is_component_row : Entry → Bool
+is_component_row row = not row.custom && not (is_provider_row row)
+
+-- what has a provider: it is custom and is no provider itself
+abbrev pub is_provided : Goal → Bool
+is_provided goal = goal.custom && not (is_provider_goal goal)
+
+-- the same of a row
+abbrev pub is_provided_row : Entry → Bool
+is_provided_row row = row.custom && not (is_provider_row row)
+
+-- whether the thing of a goal is only read; a component and a provider never are
+abbrev pub is_reading_goal : Goal → Bool
+is_reading_goal goal = is_provided goal && is_some goal.read_id
+
+-- whether a goal takes a thing over by its id; a component and a provider never do
+abbrev pub is_importing_goal : Goal → Bool
+is_importing_goal goal = is_provided goal && is_some goal.import_id
+
+-- a claim, where its thing is not one that is only read
+abbrev pub kin_of : Option Entry → Option Entry
+kin_of None = None
+kin_of (Some claim) = if claim.external then None else Some claim
