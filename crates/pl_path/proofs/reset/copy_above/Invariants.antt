@@ -1,0 +1,7 @@
+use Rattle.std.proofs.Common.{◌≡◌, ◌++◌, take}
+use Rattle.pl_path.specs.Reset.{fields_above}
+use Rattle.pl_path.proofs.reset.copy_above.Given as goal
+
+-- what was added are those of the first ones
+abbrev pub invariant-loop-name : goal.invariant-loop-name
+invariant-loop-name l = l.made ≡ l.initial.made ++ fields_above l.key (take l.name-index l.fields)

@@ -1,0 +1,4 @@
+pub mod Found
+pub mod Grammar
+pub mod Nested
+pub mod Reset
