@@ -16,6 +16,17 @@ pub struct Limits {
     pub plan: Option<PlanLines>,
 }
 
+impl Limits {
+    pub fn copy(&self) -> Result<Limits, OutOfMemory>
+        ensures { IfOk result (λ made. made ≡ self.now) }
+    {
+        Ok(Limits {
+            only: copy_urns(&self.only)?,
+            plan: copy_plan(&self.plan)?,
+        })
+    }
+}
+
 /// The steps of a plan, in order, each with the URN of its resource and its name, seen as pairs.
 #[derive(Debug, Drop)]
 pub struct PlanLines {
@@ -91,5 +102,29 @@ impl PlanLines {
             pairs.push((pair.0.copy()?, pair.1.copy()?))?;
         }
         Ok(PlanLines { pairs })
+    }
+}
+
+fn copy_urns(urns: &Option<Urns>) -> Result<Option<Urns>, OutOfMemory>
+    ensures { IfOk result (λ made. made ≡ urns.now) }
+{
+    match urns {
+        None => Ok(None),
+        Some(urns) => {
+            let copied = urns.copy()?;
+            Ok(Some(copied))
+        }
+    }
+}
+
+fn copy_plan(plan: &Option<PlanLines>) -> Result<Option<PlanLines>, OutOfMemory>
+    ensures { IfOk result (λ made. made ≡ plan.now) }
+{
+    match plan {
+        None => Ok(None),
+        Some(plan) => {
+            let copied = plan.copy()?;
+            Ok(Some(copied))
+        }
     }
 }

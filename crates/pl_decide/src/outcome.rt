@@ -1,6 +1,9 @@
+ghost use Rattle.std.specs.Prelude.{◌≡◌, IfOk};
+
 use crate::problem::{Child, Problem};
 use pl_state::BadCheckpoint;
-use pl_value::Bytes;
+use pl_value::{Bytes, OutOfMemory};
+use std::alloc::Global;
 
 /// How a run ended.
 #[derive(Debug, Drop)]
@@ -27,4 +30,34 @@ pub enum Outcome {
     ChildEnded(Child),
     BadFrame { child: Child, bytes: Bytes },
     OutOfMemory,
+}
+
+impl Outcome {
+    pub fn copy(&self, alloc: Global) -> Result<Outcome, OutOfMemory>
+        ensures { IfOk result (λ made. made ≡ self.now) }
+    {
+        Ok(match self {
+            Outcome::Done => Outcome::Done,
+            Outcome::Failed { at, problem } => Outcome::Failed {
+                at: *at,
+                problem: problem.copy(alloc)?,
+            },
+            Outcome::TooManyResources => Outcome::TooManyResources,
+            Outcome::BadWords { place } => Outcome::BadWords { place: *place },
+            Outcome::NotBuilt => Outcome::NotBuilt,
+            Outcome::BadCheckpoint(fault) => Outcome::BadCheckpoint(fault.copy()?),
+            Outcome::PendingOperations(number) => Outcome::PendingOperations(*number),
+            Outcome::StoreFault => Outcome::StoreFault,
+            Outcome::SideFault => Outcome::SideFault,
+            Outcome::StartFault => Outcome::StartFault,
+            Outcome::PipeFault(child) => Outcome::PipeFault(*child),
+            Outcome::SinkFault => Outcome::SinkFault,
+            Outcome::ChildEnded(child) => Outcome::ChildEnded(*child),
+            Outcome::BadFrame { child, bytes } => Outcome::BadFrame {
+                child: *child,
+                bytes: bytes.copy()?,
+            },
+            Outcome::OutOfMemory => Outcome::OutOfMemory,
+        })
+    }
 }

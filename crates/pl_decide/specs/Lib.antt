@@ -1,0 +1,4 @@
+pub mod Examples
+pub mod Permits
+pub mod Rows
+pub mod Table

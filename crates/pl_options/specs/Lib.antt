@@ -1,0 +1,4 @@
+pub mod Example
+pub mod GoalOf
+pub mod Ignored
+pub mod Names
