@@ -1,3 +1,7 @@
-pub mod Appending
-pub mod EntryTokens
+pub mod Fields
+pub mod Floats
+pub mod Wholes
+pub mod Parts
+pub mod Reading
+pub mod EntryTells
 pub mod TextTells

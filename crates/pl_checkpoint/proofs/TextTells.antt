@@ -1,135 +1,100 @@
 -- The text of a state tells the state: it reads as the state's data, and the data has every field.
-use Rattle.std.proofs.Common.{◌≡◌, ◌≢◌, ℕ, ◌≤◌, max, Bool, List, [], ◌∷◌, map, codes, Option, Some, None, refl, sym, ap, ap₂, ◌∙◌, arith}
-use Rattle.std.proofs.Math.Nat.{max-le}
-use Rattle.std.specs.List.{AllByRecursion}
+use Rattle.std.proofs.Common.{◌≡◌, ℕ, true, if◌then◌else◌, List, map, Option, Some, None, is_some, option_and_then, codes, refl, sym, ap, ap₂, ◌∙◌}
 use Rattle.std.proofs.lemmas.List.Elements.{recursion_from_All}
-use Rattle.json.specs.Json as json
-use Rattle.json.specs.Json.{document}
-use Rattle.json.specs.Tree.{depth, items_depth, members_depth, HasNumbers, ItemsHaveNumbers, MembersHaveNumbers}
-use Rattle.json.proofs.Printed.Decimals.{IsNumber-decimal}
-use Rattle.json.proofs.Printed.Trees.{document-print}
+use Rattle.std.specs.List.{list_all}
+use Rattle.pl_json.proofs.TextTells.{text_tells_data}
+use Rattle.pl_value.specs.Keys.{keys_of}
 use Rattle.pl_state.specs.declared.entry.Entry.{Entry}
+use Rattle.pl_state.specs.declared.pending.Pending.{Pending}
 use Rattle.pl_state.specs.declared.snapshot.Snapshot.{Snapshot}
-use Rattle.serde_json.specs.Data.{Data, string, Members, no_members, member}
+use Rattle.serde_json.specs.Data.{Data, object, Members}
+use Rattle.serde_json.specs.Find.{as_object, get_member}
 use Rattle.serde_json.specs.View.{items_of}
-use Rattle.serde_json.specs.Written.{outline, items_outline, members_outline}
-use Rattle.pl_state.specs.Component.{bare_entry, bare_state}
-use Rattle.pl_checkpoint.specs.Spelled.{IsBare, text_if_some, entry_data, entries_data, deployment_data, stack_data, checkpoint_data, checkpoint_text}
-use Rattle.pl_checkpoint.specs.Laws.{TextTellsState}
-use Rattle.pl_checkpoint.proofs.EntryTokens.{print-checkpoint_data}
+use Rattle.pl_checkpoint.specs.Formed.{is_one_of, IsFormed}
+use Rattle.pl_checkpoint.specs.Laws.{AreValued, TextTellsState}
+use Rattle.pl_checkpoint.specs.Spelled.{with_fields, unread_fields, with_manifest, entry_data, entries_data, pending_data, pendings_data, deployment_fields, deployment_data, stack_data, checkpoint_data, checkpoint_text}
+use Rattle.pl_checkpoint.proofs.EntryTells.{get_member-own, without-own, same_rest, same_entries, same_pendings}
+use Rattle.pl_checkpoint.proofs.Fields.{without, found}
+use Rattle.pl_checkpoint.proofs.Wholes.{checkpoint_wholes}
 
-abbrev listed : List Entry → json.Items
-listed entries = items_outline (items_of (map entry_data entries))
+own_keys : (state : Snapshot) → list_all (λ field. is_one_of (keys_of (deployment_fields state)) field.0) (deployment_fields state) ≡ true
+unfolding deployment_fields
+own_keys state = refl
 
--- ---- the data can be written and is not deep
+same_keys : (one two : Snapshot) → keys_of (deployment_fields one) ≡ keys_of (deployment_fields two)
+unfolding deployment_fields
+same_keys one two = refl
 
-text_if_some-numbers : (name : List ℕ) (text : Option (List ℕ)) (later : Members) → MembersHaveNumbers (members_outline later) → MembersHaveNumbers (members_outline (text_if_some name text later))
-text_if_some-numbers name None later h = h
-text_if_some-numbers name (Some text) later h = (tt, h)
+-- a manifest that is there is not put in
+there : (manifest : Option Data) (ms without_one : Members) → is_some (option_and_then as_object manifest) ≡ true
+    → (if is_some manifest then ms else without_one) ≡ ms
+there None ms without_one is = absurd (cc)
+there (Some manifest) ms without_one is = refl
 
-text_if_some-depth : (name : List ℕ) (text : Option (List ℕ)) (later : Members) (most : ℕ) → members_depth (members_outline later) ≤ most → members_depth (members_outline (text_if_some name text later)) ≤ most
-text_if_some-depth name None later most h = h
-text_if_some-depth name (Some text) later most h = max-le (omega arith) h
+with_manifest-there : (state : Snapshot) → IsFormed state → with_manifest (unread_fields state.rest) ≡ unread_fields state.rest
+with_manifest-there state formed = there (get_member (codes "manifest") (unread_fields state.rest)) (unread_fields state.rest) _ formed.manifest
 
-entry_numbers : (entry : Entry) → HasNumbers (outline (entry_data entry))
-unfolding entry_data
-entry_numbers entry = (tt, text_if_some-numbers _ entry.parent _ (tt, (tt, tt)))
+abbrev written : Snapshot → Members
+written state = with_fields (deployment_fields state) (unread_fields state.rest)
 
-entry_depth : (entry : Entry) → depth (outline (entry_data entry)) ≤ 1
-unfolding entry_data
-entry_depth entry =
-    let least : members_depth (members_outline (text_if_some (codes "parent") entry.parent (member (codes "type") (string entry.kind) (member (codes "urn") (string entry.urn) no_members)))) ≤ 0 =
-    text_if_some-depth _ entry.parent _ 0 (omega arith) in
-    let all = max-le {a = 0} {k = 0} (omega arith) least in
-    omega arith
-
-listed_numbers : (entries : List Entry) → ItemsHaveNumbers (listed entries)
-listed_numbers [] = tt
-listed_numbers (entry ∷ later) = (entry_numbers entry, listed_numbers later)
-
-listed_depth : (entries : List Entry) → items_depth (listed entries) ≤ 1
-listed_depth [] = omega arith
-listed_depth (entry ∷ later) = max-le (entry_depth entry) (listed_depth later)
-
-checkpoint_numbers : (state : Snapshot) → HasNumbers (outline (checkpoint_data state))
-unfolding checkpoint_data stack_data deployment_data entries_data
-checkpoint_numbers state = (((tt, (tt, (listed_numbers state.entries, tt))), (tt, tt)), (IsNumber-decimal 3 (omega arith), tt))
-
-entries_depth : (entries : List Entry) → depth (outline (entries_data entries)) ≤ 2
-unfolding entries_data
-entries_depth entries = let within = listed_depth entries in omega arith
-
-deployment_depth : (state : Snapshot) → depth (outline (deployment_data state)) ≤ 3
+deployment_data-written : (state : Snapshot) → IsFormed state → deployment_data state ≡ object (written state)
 unfolding deployment_data
-deployment_depth state =
-    let within : max 1 (max 1 (max (depth (outline (entries_data state.entries))) 0)) ≤ 2 =
-    max-le (omega arith) (max-le (omega arith) (max-le (entries_depth state.entries) (omega arith))) in
-    omega arith
+deployment_data-written state formed = ap (λ unread. object (with_fields (deployment_fields state) unread)) (with_manifest-there state formed)
 
-stack_depth : (state : Snapshot) → depth (outline (stack_data state)) ≤ 4
-unfolding stack_data
-stack_depth state =
-    let within : max (depth (outline (deployment_data state))) 0 ≤ 3 = max-le (deployment_depth state) (omega arith) in
-    omega arith
+same_unread : (one two : Snapshot) → IsFormed one → IsFormed two → written one ≡ written two → unread_fields one.rest ≡ unread_fields two.rest
+same_unread one two formed formed' same =
+    sym (without-own (deployment_fields one) (unread_fields one.rest) formed.rest.other (own_keys one))
+    ∙ ap₂ without (same_keys one two) same
+    ∙ without-own (deployment_fields two) (unread_fields two.rest) formed'.rest.other (own_keys two)
 
-checkpoint_depth : (state : Snapshot) → depth (outline (checkpoint_data state)) ≤ 128
-unfolding checkpoint_data
-checkpoint_depth state =
-    let within : max (depth (outline (stack_data state))) 0 ≤ 4 = max-le (stack_depth state) (omega arith) in
-    omega arith
+same_at : (one two : Snapshot) → IsFormed one → IsFormed two → written one ≡ written two
+    → (key : List ℕ) → is_one_of (keys_of (deployment_fields one)) key ≡ true → found (deployment_fields one) key None ≡ found (deployment_fields two) key None
+same_at one two formed formed' same key own =
+    sym (get_member-own (deployment_fields one) (unread_fields one.rest) key formed.rest.other own)
+    ∙ ap (get_member key) same
+    ∙ get_member-own (deployment_fields two) (unread_fields two.rest) key formed'.rest.other (sym (ap (λ keys. is_one_of keys key) (same_keys one two)) ∙ own)
 
--- ---- the text reads as the data
+same_entries_items : (one two : Snapshot) → IsFormed one → IsFormed two → written one ≡ written two
+    → items_of (map entry_data one.entries) ≡ items_of (map entry_data two.entries)
+unfolding deployment_fields entries_data
+same_entries_items one two formed formed' same = let r = same_at one two formed formed' same (codes "resources") refl in cc
 
-read-checkpoint_text : (state : Snapshot) → document (checkpoint_text state) ≡ Some (outline (checkpoint_data state))
-read-checkpoint_text state =
-    ap document (sym (print-checkpoint_data state)) ∙ document-print (outline (checkpoint_data state)) (checkpoint_numbers state) (checkpoint_depth state)
+same_pendings_items : (one two : Snapshot) → IsFormed one → IsFormed two → written one ≡ written two
+    → items_of (map pending_data one.pending) ≡ items_of (map pending_data two.pending)
+unfolding deployment_fields pendings_data
+same_pendings_items one two formed formed' same = let r = same_at one two formed formed' same (codes "pending_operations") refl in cc
 
--- ---- the data has each field
+same_record : (one two : Snapshot) → one.stack ≡ two.stack → one.entries ≡ two.entries → one.pending ≡ two.pending → one.rest ≡ two.rest → one ≡ two
+same_record one two a b c d =
+    let same : made one.stack one.entries one.pending one.rest ≡ made two.stack two.entries two.pending two.rest = cc in same
+  where
+    made : List ℕ → List Entry → List Pending → List ℕ → Snapshot
+    made stack entries pending rest = record { stack = stack; entries = entries; pending = pending; rest = rest }
 
-same_text_if_some : (name : List ℕ) (one two : Option (List ℕ)) (next : List ℕ) (d e : Data) (ms ns : Members) → name ≢ next
-    → members_outline (text_if_some name one (member next d ms)) ≡ members_outline (text_if_some name two (member next e ns))
-    → (one ≡ two) × (members_outline (member next d ms) ≡ members_outline (member next e ns))
-same_text_if_some name None None next d e ms ns apart same = (refl, same)
-same_text_if_some name (Some a) (Some b) next d e ms ns apart same = (cc, cc)
-same_text_if_some name None (Some b) next d e ms ns apart same = let equal : name ≡ next = cc in absurd (apart equal)
-same_text_if_some name (Some a) None next d e ms ns apart same = let equal : name ≡ next = cc in absurd (apart equal)
+same_state : (one two : Snapshot) → IsFormed one → IsFormed two → AreValued one → AreValued two → checkpoint_data one ≡ checkpoint_data two → one ≡ two
+unfolding checkpoint_data stack_data deployment_fields
+same_state one two formed formed' valued valued' same =
+    let stack : one.stack ≡ two.stack = cc in
+    let deployment : deployment_data one ≡ deployment_data two = cc in
+    let objects : object (written one) ≡ object (written two) =
+    sym (deployment_data-written one formed) ∙ deployment ∙ deployment_data-written two formed' in
+    let ms : written one ≡ written two = cc in
+    let entries = same_entries one.entries two.entries
+    (recursion_from_All _ one.entries formed.entries) (recursion_from_All _ two.entries formed'.entries)
+    (recursion_from_All _ one.entries valued.entries) (recursion_from_All _ two.entries valued'.entries)
+    (same_entries_items one two formed formed' ms) in
+    let pending = same_pendings one.pending two.pending
+    (recursion_from_All _ one.pending formed.pending) (recursion_from_All _ two.pending formed'.pending)
+    (recursion_from_All _ one.pending valued.pending) (recursion_from_All _ two.pending valued'.pending)
+    (same_pendings_items one two formed formed' ms) in
+    let rest = same_rest (keys_of (deployment_fields one)) one.rest two.rest formed.rest formed'.rest (same_unread one two formed formed' ms) in
+    same_record one two stack entries pending rest
 
-abbrev IsBareEntry : Entry → Type 0
-IsBareEntry entry = entry ≡ bare_entry entry.urn entry.custom entry.kind entry.parent
-
-same_entry : (one two : Entry) → IsBareEntry one → IsBareEntry two → outline (entry_data one) ≡ outline (entry_data two) → one ≡ two
-unfolding entry_data
-same_entry one two bare_one bare_two same =
-    let after : members_outline (text_if_some (codes "parent") one.parent (member (codes "type") (string one.kind) (member (codes "urn") (string one.urn) no_members)))
-    ≡ members_outline (text_if_some (codes "parent") two.parent (member (codes "type") (string two.kind) (member (codes "urn") (string two.urn) no_members))) = cc in
-    let rest = same_text_if_some _ one.parent two.parent _ _ _ _ _ (λ e. cc) after in
-    let urn : one.urn ≡ two.urn = cc in
-    let custom : one.custom ≡ two.custom = cc in
-    let kind : one.kind ≡ two.kind = cc in
-    let parent : one.parent ≡ two.parent = rest.0 in
-    let all : bare_entry one.urn one.custom one.kind one.parent ≡ bare_entry two.urn two.custom two.kind two.parent = cc in
-    bare_one ∙ all ∙ sym bare_two
-
-same_entries : (some others : List Entry) → AllByRecursion IsBareEntry some → AllByRecursion IsBareEntry others → listed some ≡ listed others → some ≡ others
-same_entries [] [] b c same = refl
-same_entries [] (two ∷ others) b c same = cc
-same_entries (one ∷ some) [] b c same = cc
-same_entries (one ∷ some) (two ∷ others) b c same = ap₂ (λ e es. e ∷ es) (same_entry one two b.0 c.0 cc) (same_entries some others b.1 c.1 cc)
-
-same_listed : (some others : List Entry) → outline (entries_data some) ≡ outline (entries_data others) → listed some ≡ listed others
-unfolding entries_data
-same_listed some others same = cc
-
-same_state : (state other : Snapshot) → IsBare state → IsBare other → outline (checkpoint_data state) ≡ outline (checkpoint_data other) → state ≡ other
-unfolding checkpoint_data stack_data deployment_data
-same_state state other bare_state' bare_other same =
-    let stack : state.stack ≡ other.stack = cc in
-    let data_of_entries : outline (entries_data state.entries) ≡ outline (entries_data other.entries) = cc in
-    let entries = same_entries state.entries other.entries (recursion_from_All _ state.entries bare_state'.entries) (recursion_from_All _ other.entries bare_other.entries) (same_listed state.entries other.entries data_of_entries) in
-    bare_state'.others ∙ ap₂ bare_state stack entries ∙ sym bare_other.others
+same_data : (one two : Snapshot) → IsFormed one → IsFormed two → AreValued one → AreValued two → checkpoint_text one ≡ checkpoint_text two → checkpoint_data one ≡ checkpoint_data two
+unfolding checkpoint_text
+same_data one two formed formed' valued valued' same =
+    text_tells_data (checkpoint_data one) (checkpoint_data two) (checkpoint_wholes one formed valued) (checkpoint_wholes two formed' valued') same
 
 pub text_tells_state : TextTellsState
-text_tells_state state other bare bare' same =
-    let read : Some (outline (checkpoint_data state)) ≡ Some (outline (checkpoint_data other)) =
-    sym (read-checkpoint_text state) ∙ ap document same ∙ read-checkpoint_text other in
-    same_state state other bare bare' cc
+text_tells_state state other formed formed' valued valued' same =
+    same_state state other formed formed' valued valued' (same_data state other formed formed' valued valued' same)

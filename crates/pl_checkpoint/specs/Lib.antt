@@ -1,3 +1,3 @@
 pub mod Spelled
-pub mod Appends
+pub mod Formed
 pub mod Laws

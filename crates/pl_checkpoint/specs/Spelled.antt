@@ -1,44 +1,150 @@
 -- How a state is spelled: the checkpoint's data of version 3 and its text. An object's members stand in rising order of
 -- their keys.
-use Rattle.std.specs.Prelude.{◌≡◌, All, List, ℕ, map, Option, Some, None, codes}
-use Rattle.pl_state.specs.Component.{bare_entry, bare_state}
+use Rattle.std.specs.Prelude.{ℕ, Bool, true, false, if◌then◌else◌, List, [], ◌∷◌, ◌++◌, map, Option, Some, None, option_and_then, option_map, is_some, codes}
+use Rattle.pl_json.specs.Spelled.{spelled_fields}
 use Rattle.pl_state.specs.declared.entry.Entry.{Entry}
+use Rattle.pl_state.specs.declared.pending.Pending.{Pending}
+use Rattle.pl_state.specs.declared.pending.PendingKind.{PendingKind}
+use Rattle.pl_state.specs.declared.pending.PendingKind.TheVariants.{Creating, Updating, Deleting, Reading, Importing}
+use Rattle.pl_reference.specs.declared.reference.ProviderRef.{ProviderRef}
 use Rattle.pl_state.specs.declared.snapshot.Snapshot.{Snapshot}
-use Rattle.serde_json.specs.Data.{Data, boolean, number, unsigned, string, array, object, no_items, Members, no_members, member}
+use Rattle.serde_json.specs.Data.{Data, boolean, number, unsigned, string, array, object, Members, no_members, member, put}
+use Rattle.serde_json.specs.Find.{as_object, get_member}
+use Rattle.serde_json.specs.Read.{read}
 use Rattle.serde_json.specs.View.{items_of}
-use Rattle.serde_json.specs.Written.{compact_text}
+use Rattle.serde_json.specs.Written.{compact_text, members_have_float}
 
--- a state that is spelled as yet: its entries have nothing but a type, a parent and whether they are custom,
--- nothing is pending, and the manifest is empty
-pub record IsBare (state : Snapshot) : Type 0 where
-  pub entries : All (λ entry. entry ≡ bare_entry entry.urn entry.custom entry.kind entry.parent) state.entries
-  pub others : state ≡ bare_state state.stack state.entries
+-- ---- objects with fields that may be left out
 
--- a text's member, which is left out where there is no text
-abbrev pub text_if_some : List ℕ → Option (List ℕ) → Members → Members
-text_if_some key None later = later
-text_if_some key (Some text) later = member key (string text) later
+-- a key, and what is written under it
+abbrev pub Field : Type 0
+Field = List ℕ × Option Data
 
--- An entry's object. `custom`, `type` and `urn` always stand in it, any other field where it has a value of its own.
+-- the members with what is written under the key, in its place
+abbrev pub put_if_some : List ℕ → Option Data → Members → Members
+put_if_some key None ms = ms
+put_if_some key (Some value) ms = put key value ms
+
+-- the members with each of the fields in its place
+abbrev pub with_fields : List Field → Members → Members
+with_fields [] ms = ms
+with_fields (field ∷ more) ms = with_fields more (put_if_some field.0 field.1 ms)
+
+-- ---- what stands under one key
+
+-- a flag is written where it is set
+abbrev pub flag_data : Bool → Option Data
+flag_data false = None
+flag_data true = Some (boolean true)
+
+-- a text is written where there is one
+abbrev pub text_data : Option (List ℕ) → Option Data
+text_data text = option_map string text
+
+-- what belongs to a list is written where something is in the list
+abbrev pub unless_empty : {X : Type 0} → List X → Data → Option Data
+unless_empty [] value = None
+unless_empty (_ ∷ _) value = Some value
+
+-- texts as an array
+abbrev pub texts_data : List (List ℕ) → Data
+texts_data texts = array (items_of (map string texts))
+
+-- the field of a property: the URNs that its value depends on, an empty array where there are none
+abbrev pub property_field : List ℕ × List (List ℕ) → Field
+property_field pair = (pair.0, Some (texts_data pair.1))
+
+-- lists of URNs by their properties, as an object
+abbrev pub properties_data : List (List ℕ × List (List ℕ)) → Data
+properties_data pairs = object (with_fields (map property_field pairs) no_members)
+
+-- a provider's URN and its id, with two colons between them
+abbrev pub reference_text : ProviderRef → List ℕ
+reference_text reference = reference.urn ++ (codes "::" ++ reference.id)
+
+-- ---- fields that are kept unread
+
+-- the members; none where there are none, and none where a number in them is not whole
+abbrev pub whole_members : Option Members → Members
+whole_members None = no_members
+whole_members (Some ms) = if members_have_float ms then no_members else ms
+
+-- the fields that a text spells, those of the object that it is
+unfoldable pub unread_fields : List ℕ → Members
+unread_fields text = whole_members (option_and_then as_object (read text))
+
+-- ---- entries
+
+-- The fields of an entry, by their keys. `custom`, `type` and `urn` always stand in it, any other one where it has a
+-- value of its own.
+unfoldable pub entry_fields : Entry → List Field
+entry_fields entry =
+    (codes "additionalSecretOutputs", unless_empty entry.additional_secret_outputs (texts_data entry.additional_secret_outputs))
+    ∷ (codes "aliases", unless_empty entry.aliases (texts_data entry.aliases))
+    ∷ (codes "custom", Some (boolean entry.custom))
+    ∷ (codes "delete", flag_data entry.doomed)
+    ∷ (codes "dependencies", unless_empty entry.dependencies (texts_data entry.dependencies))
+    ∷ (codes "external", flag_data entry.external)
+    ∷ (codes "id", text_data entry.id)
+    ∷ (codes "importID", text_data entry.import_id)
+    ∷ (codes "initErrors", unless_empty entry.init_errors (texts_data entry.init_errors))
+    ∷ (codes "inputs", unless_empty entry.inputs (spelled_fields entry.inputs))
+    ∷ (codes "outputs", unless_empty entry.outputs (spelled_fields entry.outputs))
+    ∷ (codes "parent", text_data entry.parent)
+    ∷ (codes "propertyDependencies", unless_empty entry.property_dependencies (properties_data entry.property_dependencies))
+    ∷ (codes "protect", flag_data entry.protect)
+    ∷ (codes "provider", text_data (option_map reference_text entry.provider))
+    ∷ (codes "retainOnDelete", flag_data entry.retain_on_delete)
+    ∷ (codes "type", Some (string entry.kind))
+    ∷ (codes "urn", Some (string entry.urn))
+    ∷ []
+
+-- an entry's object: its own fields among those that are kept unread
 unfoldable pub entry_data : Entry → Data
-entry_data entry = object (
-    member (codes "custom") (boolean entry.custom) (
-    text_if_some (codes "parent") entry.parent (
-    member (codes "type") (string entry.kind) (
-    member (codes "urn") (string entry.urn)
-    no_members))))
+entry_data entry = object (with_fields (entry_fields entry) (unread_fields entry.rest))
 
 -- the entries in their order, as an array
 unfoldable pub entries_data : List Entry → Data
 entries_data entries = array (items_of (map entry_data entries))
 
--- the deployment: no manifest, no pending operation, and the entries
+-- ---- pending operations
+
+-- the word for what an operation was about to do
+abbrev pub kind_word : PendingKind → List ℕ
+kind_word Creating = codes "creating"
+kind_word Updating = codes "updating"
+kind_word Deleting = codes "deleting"
+kind_word Reading = codes "reading"
+kind_word Importing = codes "importing"
+
+-- a pending operation: the entry that it is about, and its word
+unfoldable pub pending_data : Pending → Data
+pending_data operation = object (
+    member (codes "resource") (entry_data operation.entry) (
+    member (codes "type") (string (kind_word operation.kind))
+    no_members))
+
+-- the operations in their order, as an array
+unfoldable pub pendings_data : List Pending → Data
+pendings_data operations = array (items_of (map pending_data operations))
+
+-- ---- the state
+
+-- the members, with an empty manifest where they have none
+abbrev pub with_manifest : Members → Members
+with_manifest ms =
+    if is_some (get_member (codes "manifest") ms) then ms else put (codes "manifest") (object no_members) ms
+
+-- the fields of a deployment: what is pending, and the entries
+unfoldable pub deployment_fields : Snapshot → List Field
+deployment_fields state =
+    (codes "pending_operations", Some (pendings_data state.pending))
+    ∷ (codes "resources", Some (entries_data state.entries))
+    ∷ []
+
+-- the deployment: its own fields among those that are kept unread, the manifest among these
 unfoldable pub deployment_data : Snapshot → Data
-deployment_data state = object (
-    member (codes "manifest") (object no_members) (
-    member (codes "pending_operations") (array no_items) (
-    member (codes "resources") (entries_data state.entries)
-    no_members)))
+deployment_data state = object (with_fields (deployment_fields state) (with_manifest (unread_fields state.rest)))
 
 -- the stack: its deployment and its name
 unfoldable pub stack_data : Snapshot → Data

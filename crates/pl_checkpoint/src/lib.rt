@@ -2,9 +2,11 @@
 #![tactic(auto)]
 
 mod laws;
+mod members;
 mod spelling;
 #[cfg(test)]
 mod tests;
+mod unread;
 
 pub use laws::text_tells_state;
 pub use spelling::write;

@@ -1,144 +1,160 @@
-ghost use Rattle.std.specs.Prelude.{◌≡◌, [], ◌∷◌, decimal, IfOk, OnOk, Some};
-ghost use Rattle.json.specs.Token.{begin_array, begin_object, boolean, end_array, end_object, key, number};
-ghost use Rattle.pl_checkpoint.specs.Appends.{Appends, AppendsData, text_tokens};
-ghost use Rattle.pl_checkpoint.specs.Spelled.{IsBare, checkpoint_data, checkpoint_text, deployment_data, entries_data, entry_data, stack_data};
+ghost use Rattle.std.specs.Prelude.{◌≡◌, IfOk, map, OnOk};
+ghost use Rattle.pl_checkpoint.specs.Spelled.{checkpoint_data, checkpoint_text, deployment_data, entry_data, kind_word, pending_data, stack_data, with_manifest};
+ghost use Rattle.serde_json.specs.View.{items_of, items_view, members_view, view};
 
-use json::Writer;
-use pl_state::{Entries, Entry, Snapshot};
-use pl_urn::Urn;
-use pl_value::{Bytes, OutOfMemory, Text};
-use std::alloc::{AllocError, Global};
+use crate::members::{
+    Members, put_bool, put_flag, put_properties, put_reference_if_some, put_text, put_text_if_some,
+    put_texts, put_urn_if_some, put_urns, put_values,
+};
+use crate::unread::unread_in;
+use pl_state::{Entry, Pending, PendingKind, Snapshot};
+use pl_value::{Bytes, OutOfMemory};
+use serde_json::{Map, Value as Json, put};
+use std::alloc::Global;
 
 /// The version of the checkpoint's format.
 const VERSION: u64 = 3;
 
-/// The bytes of the checkpoint. Inputs, outputs and options are not spelled yet, so the state has none.
+/// The bytes of the checkpoint.
 pub fn write(alloc: Global, state: &Snapshot) -> Result<Bytes, OutOfMemory>
-    requires { IsBare state.now }
     ensures { IfOk result (λ bytes. bytes ≡ checkpoint_text state.now) }
 {
-    let mut out = Writer::new(Vec::with_capacity(alloc, 256)?);
-    write_checkpoint(state, &mut out)?;
-    Ok(Bytes::from_vec(out.into_inner()))
+    let checkpoint = spell_checkpoint(alloc, state)?;
+    let bytes = checkpoint.to_vec(alloc)?;
+    Ok(Bytes::from_vec(bytes))
 }
 
-fn write_checkpoint(state: &Snapshot, out: &mut Writer) -> Result<(), AllocError>
-    ensures { OnOk result (AppendsData out.old out.new (checkpoint_data state.now)) }
+fn spell_checkpoint(alloc: Global, state: &Snapshot) -> Result<Json, OutOfMemory>
+    ensures { IfOk result (λ made. view made ≡ checkpoint_data state.now) }
 {
-    out.begin_object()?;
-    out.key("checkpoint")?;
-    write_stack(state, out)?;
-    write_whole("version", VERSION, out)?;
-    out.end_object()?;
-    Ok(())
+    let mut members = Map::new(alloc);
+    put(
+        &mut members,
+        alloc,
+        "checkpoint",
+        spell_stack(alloc, state)?,
+    )?;
+    put(&mut members, alloc, "version", Json::from(VERSION))?;
+    Ok(Json::Object(members))
 }
 
-#[tactic(auto, unfolding(crate::specs::Spelled::stack_data))]
-fn write_stack(state: &Snapshot, out: &mut Writer) -> Result<(), AllocError>
-    ensures { OnOk result (AppendsData out.old out.new (stack_data state.now)) }
+fn spell_stack(alloc: Global, state: &Snapshot) -> Result<Json, OutOfMemory>
+    ensures { IfOk result (λ made. view made ≡ stack_data state.now) }
 {
-    out.begin_object()?;
-    out.key("latest")?;
-    write_deployment(state, out)?;
-    write_text("stack", &state.stack, out)?;
-    out.end_object()?;
-    Ok(())
+    let mut members = Map::new(alloc);
+    put(
+        &mut members,
+        alloc,
+        "latest",
+        spell_deployment(alloc, state)?,
+    )?;
+    put_text(alloc, &mut members, "stack", state.stack.as_str())?;
+    Ok(Json::Object(members))
 }
 
-fn write_deployment(state: &Snapshot, out: &mut Writer) -> Result<(), AllocError>
-    ensures { OnOk result (AppendsData out.old out.new (deployment_data state.now)) }
+fn spell_deployment(alloc: Global, state: &Snapshot) -> Result<Json, OutOfMemory>
+    ensures { IfOk result (λ made. view made ≡ deployment_data state.now) }
 {
-    out.begin_object()?;
-    write_empty_object("manifest", out)?;
-    write_empty_array("pending_operations", out)?;
-    out.key("resources")?;
-    write_entries(&state.entries, out)?;
-    out.end_object()?;
-    Ok(())
+    let mut members = unread_in(alloc, &state.rest)?;
+    add_manifest(alloc, &mut members)?;
+    let operations = spell_operations(alloc, state.pending.as_slice())?;
+    put(
+        &mut members,
+        alloc,
+        "pending_operations",
+        Json::Array(operations),
+    )?;
+    let entries = spell_entries(alloc, state.entries.as_slice())?;
+    put(&mut members, alloc, "resources", Json::Array(entries))?;
+    Ok(Json::Object(members))
 }
 
-fn write_entries(entries: &Entries, out: &mut Writer) -> Result<(), AllocError>
-    ensures { OnOk result (AppendsData out.old out.new (entries_data entries.now)) }
+fn add_manifest(alloc: Global, members: &mut Members) -> Result<(), OutOfMemory>
+    ensures { OnOk result (members_view members.new.entries ≡ with_manifest (members_view members.old.entries)) }
 {
-    out.begin_array()?;
-    for place in 0..entries.len() {
-        if let Some(entry) = entries.get(place) {
-            write_entry(entry, out)?;
-        }
-    }
-    out.end_array()?;
-    Ok(())
-}
-
-fn write_entry(entry: &Entry, out: &mut Writer) -> Result<(), AllocError>
-    ensures { OnOk result (AppendsData out.old out.new (entry_data entry.now)) }
-{
-    out.begin_object()?;
-    write_flag("custom", entry.custom, out)?;
-    write_urn_if_some("parent", &entry.parent, out)?;
-    write_text("type", &entry.kind, out)?;
-    write_urn("urn", &entry.urn, out)?;
-    out.end_object()?;
-    Ok(())
-}
-
-fn write_flag(name: &str, flag: bool, out: &mut Writer) -> Result<(), AllocError>
-    ensures { OnOk result (Appends out.old out.new (key name.now ∷ boolean flag ∷ [])) }
-{
-    out.key(name)?;
-    out.boolean(flag)?;
-    Ok(())
-}
-
-fn write_whole(name: &str, whole: u64, out: &mut Writer) -> Result<(), AllocError>
-    ensures { OnOk result (Appends out.old out.new (key name.now ∷ number (decimal whole) ∷ [])) }
-{
-    out.key(name)?;
-    out.u64(whole)?;
-    Ok(())
-}
-
-fn write_empty_array(name: &str, out: &mut Writer) -> Result<(), AllocError>
-    ensures { OnOk result (Appends out.old out.new
-        (key name.now ∷ begin_array ∷ end_array ∷ [])) }
-{
-    out.key(name)?;
-    out.begin_array()?;
-    out.end_array()?;
-    Ok(())
-}
-
-fn write_empty_object(name: &str, out: &mut Writer) -> Result<(), AllocError>
-    ensures { OnOk result (Appends out.old out.new
-        (key name.now ∷ begin_object ∷ end_object ∷ [])) }
-{
-    out.key(name)?;
-    out.begin_object()?;
-    out.end_object()?;
-    Ok(())
-}
-
-fn write_text(name: &str, text: &Text, out: &mut Writer) -> Result<(), AllocError>
-    ensures { OnOk result (Appends out.old out.new (text_tokens name.now (Some text.now))) }
-{
-    out.key(name)?;
-    out.string(text.as_str())?;
-    Ok(())
-}
-
-fn write_urn(name: &str, urn: &Urn, out: &mut Writer) -> Result<(), AllocError>
-    ensures { OnOk result (Appends out.old out.new (text_tokens name.now (Some urn.now))) }
-{
-    out.key(name)?;
-    out.string(urn.as_str())?;
-    Ok(())
-}
-
-fn write_urn_if_some(name: &str, urn: &Option<Urn>, out: &mut Writer) -> Result<(), AllocError>
-    ensures { OnOk result (Appends out.old out.new (text_tokens name.now urn.now)) }
-{
-    if let Some(urn) = urn {
-        write_urn(name, urn, out)?;
+    if members.get("manifest").is_none() {
+        put(members, alloc, "manifest", Json::Object(Map::new(alloc)))?;
     }
     Ok(())
+}
+
+fn spell_entries(alloc: Global, entries: &[Entry]) -> Result<Vec<Json>, OutOfMemory>
+    ensures { IfOk result (λ made. items_view made.items ≡ items_of (map entry_data entries.now)) }
+{
+    let mut made = Vec::new(alloc);
+    for entry in entries {
+        made.push(spell_entry(alloc, entry)?)?;
+    }
+    Ok(made)
+}
+
+fn spell_operations(alloc: Global, operations: &[Pending]) -> Result<Vec<Json>, OutOfMemory>
+    ensures { IfOk result (λ made. items_view made.items ≡ items_of (map pending_data operations.now)) }
+{
+    let mut made = Vec::new(alloc);
+    for operation in operations {
+        made.push(spell_operation(alloc, operation)?)?;
+    }
+    Ok(made)
+}
+
+fn spell_operation(alloc: Global, operation: &Pending) -> Result<Json, OutOfMemory>
+    ensures { IfOk result (λ made. view made ≡ pending_data operation.now) }
+{
+    let mut members = Map::new(alloc);
+    put(
+        &mut members,
+        alloc,
+        "resource",
+        spell_entry(alloc, &operation.entry)?,
+    )?;
+    put_text(alloc, &mut members, "type", kind_word(operation.kind))?;
+    Ok(Json::Object(members))
+}
+
+fn kind_word(kind: PendingKind) -> &'static str
+    ensures { result.now ≡ kind_word kind }
+{
+    match kind {
+        PendingKind::Creating => "creating",
+        PendingKind::Updating => "updating",
+        PendingKind::Deleting => "deleting",
+        PendingKind::Reading => "reading",
+        PendingKind::Importing => "importing",
+    }
+}
+
+fn spell_entry(alloc: Global, entry: &Entry) -> Result<Json, OutOfMemory>
+    ensures { IfOk result (λ made. view made ≡ entry_data entry.now) }
+{
+    let mut fields = unread_in(alloc, &entry.rest)?;
+    put_texts(
+        alloc,
+        &mut fields,
+        "additionalSecretOutputs",
+        &entry.additional_secret_outputs,
+    )?;
+    put_urns(alloc, &mut fields, "aliases", &entry.aliases)?;
+    put_bool(alloc, &mut fields, "custom", entry.custom)?;
+    put_flag(alloc, &mut fields, "delete", entry.doomed)?;
+    put_urns(alloc, &mut fields, "dependencies", &entry.dependencies)?;
+    put_flag(alloc, &mut fields, "external", entry.external)?;
+    put_text_if_some(alloc, &mut fields, "id", &entry.id)?;
+    put_text_if_some(alloc, &mut fields, "importID", &entry.import_id)?;
+    put_texts(alloc, &mut fields, "initErrors", &entry.init_errors)?;
+    put_values(alloc, &mut fields, "inputs", &entry.inputs)?;
+    put_values(alloc, &mut fields, "outputs", &entry.outputs)?;
+    put_urn_if_some(alloc, &mut fields, "parent", &entry.parent)?;
+    put_properties(
+        alloc,
+        &mut fields,
+        "propertyDependencies",
+        &entry.property_dependencies,
+    )?;
+    put_flag(alloc, &mut fields, "protect", entry.protect)?;
+    put_reference_if_some(alloc, &mut fields, "provider", &entry.provider)?;
+    put_flag(alloc, &mut fields, "retainOnDelete", entry.retain_on_delete)?;
+    put_text(alloc, &mut fields, "type", entry.kind.as_str())?;
+    put_text(alloc, &mut fields, "urn", entry.urn.as_str())?;
+    Ok(Json::Object(fields))
 }

@@ -1,16 +1,12 @@
-use Rattle.std.proofs.Common.{◌≡◌, [], ◌++◌, ap, ◌∙◌}
-use Rattle.json.specs.Print.{print}
-use Rattle.json.specs.Tree.{json_tokens}
-use Rattle.serde_json.specs.Written.{outline}
-use Rattle.pl_checkpoint.specs.Spelled.{checkpoint_data}
-use Rattle.pl_checkpoint.proofs.EntryTokens.{print-checkpoint_data}
+use Rattle.std.proofs.Common.{◌≡◌, false, ap, ◌∙◌}
+use Rattle.serde_json.specs.View.{view}
+use Rattle.serde_json.specs.Written.{compact_text, has_float}
+use Rattle.pl_checkpoint.specs.Spelled.{checkpoint_text}
+use Rattle.pl_checkpoint.proofs.Floats.{checkpoint_whole}
 use Rattle.pl_checkpoint.proofs.spelling.write.Goals as goal
 
--- the bytes are the print of the tokens, and that is the compact text
 pub returns : goal.returns
+unfolding checkpoint_text
 returns c =
-    let before : c.write_checkpoint.new.out.before ≡ [] =
-    c.in_ok-write_checkpoint.ensures.before ∙ c.new-out.ensures.before ∙ c.in_ok-with_capacity.ensures.items in
-    let tokens : c.write_checkpoint.new.out.tokens ≡ json_tokens (outline (checkpoint_data c.args.state.now)) =
-    c.in_ok-write_checkpoint.ensures.tokens ∙ ap (λ ts. ts ++ json_tokens (outline (checkpoint_data c.args.state.now))) c.new-out.ensures.tokens in
-    c.from_vec.ensures ∙ c.into_inner.ensures.items ∙ ap (λ bs. bs ++ print c.write_checkpoint.new.out.tokens) before ∙ ap print tokens ∙ print-checkpoint_data c.args.state.now
+    let none : has_float (view c.in_ok-checkpoint.checkpoint) ≡ false = ap has_float c.in_ok-checkpoint.ensures ∙ checkpoint_whole c.args.state.now in
+    c.from_vec.ensures ∙ c.in_ok-bytes.ensures.text none ∙ ap compact_text c.in_ok-checkpoint.ensures
