@@ -1,56 +1,241 @@
--- What the events record: entries, and the state of a history.
-use Rattle.std.specs.Prelude.{ℕ, ◌==◌, Bool, not, if◌then◌else◌, Option, Some, None, List, [], ◌∷◌, ◌++◌, length, filter}
-use Rattle.std.specs.List.{list_any}
-use Rattle.std.specs.Str.{bytes_eq}
-use Rattle.pl_state.specs.declared.goal.Goal.{Goal}
+-- The entries that events record, the rows that are left, and how an alias turns their URNs.
+use Rattle.std.specs.Prelude.{ℕ, ◌==◌, Bool, true, false, not, ◌||◌, if◌then◌else◌, Option, None, Some, List, [], ◌∷◌, map, reverse, option_map, option_and_then, bytes_eq}
+use Rattle.std.specs.List.{filter_map, fold}
+use Rattle.std.specs.Option.{option_or}
+use Rattle.pl_value.specs.Secrets.{marked}
+use Rattle.pl_options.specs.Names.{id_text}
+use Rattle.pl_state.specs.Component.{no_fields}
+use Rattle.pl_state.specs.Kinds.{is_component, is_provider_goal}
 use Rattle.pl_state.specs.declared.entry.Entry.{Entry}
-use Rattle.pl_state.specs.declared.snapshot.Snapshot.{Snapshot}
-use Rattle.pl_state.specs.Component.{bare_state, component_entry}
-use Rattle.pl_events.specs.declared.event.Event.{Event}
+use Rattle.pl_state.specs.declared.goal.Goal.{Goal}
+use Rattle.pl_reference.specs.declared.reference.ProviderRef.{ProviderRef}
+use Rattle.pl_events.specs.declared.event.Request.{Request}
+use Rattle.pl_events.specs.declared.event.Request.TheVariants.{Outputs}
 use Rattle.pl_events.specs.declared.event.What.{What}
-use Rattle.pl_events.specs.declared.event.What.TheVariants.{Told, Kept}
-use Rattle.pl_model.specs.Run.{Fixed}
-use Rattle.pl_model.specs.Problems.{has_problem}
-use Rattle.pl_model.specs.Requests.{goals_of, goal_at}
+use Rattle.pl_events.specs.declared.event.What.TheVariants.{Kept}
+use Rattle.pl_events.specs.declared.reply.Reply.{Reply}
+use Rattle.pl_events.specs.declared.reply.Reply.TheVariants as reply
+use Rattle.pl_decide.specs.declared.decision.Decision.{Decision}
+use Rattle.pl_decide.specs.declared.decision.Decision.TheVariants as decision
+use Rattle.pl_model.specs.Run.{Pairs}
+use Rattle.pl_model.specs.Tickets.{Closed}
+use Rattle.pl_model.specs.Recording.{has_number, only_if, recorded_by_reply, recorded_of}
+use Rattle.pl_model.specs.Claims.{Decided, claimed_row, first_some, id_of_row, usable_id}
+use Rattle.pl_model.specs.Known.{Known, claim_row, decided_goal, goal_at, provider_id}
+use Rattle.pl_model.specs.Planned.{planned_outputs}
+use Rattle.pl_model.specs.Rows.{is_marked, left_rows, row_at}
 
--- the entry of a component's goal
-abbrev pub entry_of : Goal → Entry
-entry_of goal = component_entry goal.urn goal.kind goal.parent
+-- what a recording adds to the goal: an id, outputs, the errors of a thing that was made in part, and what is
+-- kept unread
+pub record Result : Type 0 where
+  pub id : Option (List ℕ)
+  pub outputs : Pairs
+  pub reasons : List (List ℕ)
+  pub rest : List ℕ
 
--- the entry of a goal, if there is such a goal
-abbrev pub entry_if : Option Goal → List Entry
-entry_if None = []
-entry_if (Some goal) = entry_of goal ∷ []
+abbrev pub result_with : Option (List ℕ) → Pairs → List (List ℕ) → Result
+result_with id outputs reasons = record { id = id; outputs = outputs; reasons = reasons; rest = no_fields }
 
--- the recorded entries after an event: a kept goal's entry comes last
-abbrev pub entries_after : What → List Goal → List Entry → List Entry
-entries_after (Kept goal _) goals entries = entries ++ entry_if (goal_at goals goal)
-entries_after _ goals entries = entries
+abbrev pub outputs_of_row : Option Entry → Pairs
+outputs_of_row None = []
+outputs_of_row (Some row) = row.outputs
+
+-- ---- by a reply
+
+-- what a reply gives to the entry of a goal, over its claim
+abbrev pub result_of_reply : Option Entry → Reply → Option Result
+result_of_reply claim (reply.Made id outputs) = Some (result_with (Some id) outputs [])
+result_of_reply claim (reply.MadePartly id outputs reasons) = Some (result_with (Some id) outputs reasons)
+result_of_reply claim (reply.Changed outputs) = Some (result_with (id_of_row claim) outputs [])
+result_of_reply claim (reply.ChangedPartly outputs reasons) = Some (result_with (id_of_row claim) outputs reasons)
+result_of_reply claim (reply.Found id inputs outputs) = Some (result_with (Some id) outputs [])
+result_of_reply claim _ = None
+
+-- ---- without a reply
+
+-- a provider's id: its claim's if that is usable, or else the one made of the number that its keep carries
+abbrev pub kept_provider_id : Option Entry → Option ℕ → Option (List ℕ)
+kept_provider_id claim fresh = option_or (usable_id (id_of_row claim)) (option_map id_text fresh)
+
+abbrev pub kept_id : Goal → Option Entry → Option ℕ → Option (List ℕ)
+kept_id goal claim fresh = if is_provider_goal goal then kept_provider_id claim fresh else id_of_row claim
+
+-- all that a keep leaves as the claim has it
+abbrev pub kept_over : Goal → Option ℕ → Entry → Result
+kept_over goal fresh claim = record {
+  id = kept_id goal (Some claim) fresh;
+  outputs = claim.outputs;
+  reasons = claim.init_errors;
+  rest = claim.rest;
+}
+
+abbrev pub kept_same : Goal → Option Entry → Option ℕ → Result
+kept_same goal None fresh = result_with None [] []
+kept_same goal (Some claim) fresh = kept_over goal fresh claim
+
+-- a component or a provider that is made or changed; a provider keeps its claim's id also where the claim is external
+abbrev pub new_id : Goal → Option Entry → Option ℕ → Option (List ℕ)
+new_id goal claim fresh = if is_provider_goal goal then kept_provider_id claim fresh else None
+
+abbrev pub kept_new : Goal → Option Entry → Option ℕ → Result
+kept_new goal claim fresh = result_with (new_id goal claim fresh) [] []
+
+abbrev pub kept_changed : Goal → Option Entry → Option ℕ → Result
+kept_changed goal claim fresh = result_with (kept_id goal claim fresh) (outputs_of_row claim) []
+
+abbrev pub planned_by : Goal → Option Entry → Pairs → Decision → Result
+planned_by goal claim checked decision.Update =
+    result_with (id_of_row claim) (planned_outputs (outputs_of_row claim) checked) []
+planned_by goal claim checked decision.Import = result_with goal.import_id checked []
+planned_by goal claim checked decision.ReadOnly = result_with goal.read_id checked []
+planned_by goal claim checked _ = result_with None checked []
+
+-- in a preview, what another goal's entry is planned to be
+abbrev pub kept_planned : Goal → Option Entry → Decided → Result
+kept_planned goal claim one = planned_by goal claim one.checked one.decision
+
+abbrev pub is_keep : Decision → Bool
+is_keep decision.Keep = true
+is_keep _ = false
+
+abbrev pub is_update : Decision → Bool
+is_update decision.Update = true
+is_update _ = false
+
+-- what a keep gives to the entry of a goal
+abbrev pub result_of_keep : Goal → Option Entry → Decided → Option ℕ → Result
+result_of_keep goal claim one fresh =
+    if is_keep one.decision then kept_same goal claim fresh
+    else (if not (is_component goal || is_provider_goal goal) then kept_planned goal claim one
+    else (if is_update one.decision then kept_changed goal claim fresh else kept_new goal claim fresh))
+
+-- ---- entries
+
+abbrev pub is_read_only : Decision → Bool
+is_read_only decision.ReadOnly = true
+is_read_only _ = false
+
+-- the reference to a provider that is recorded
+abbrev pub reference_to : Known → ℕ → Option ProviderRef
+reference_to known provider =
+    option_and_then (λ goal. option_map (λ id. record { urn = goal.urn; id = id }) (provider_id known provider))
+    (goal_at known provider)
+
+-- the entry of a goal: its URN, options and references, the checked inputs, and what the recording gave, with
+-- the named outputs kept as secrets
+abbrev pub goal_entry : Known → Goal → Decided → Result → Entry
+goal_entry known goal one result = record {
+  urn = goal.urn;
+  custom = goal.custom;
+  kind = goal.kind;
+  id = result.id;
+  inputs = one.checked;
+  outputs = marked goal.additional_secret_outputs result.outputs;
+  parent = goal.parent;
+  provider = option_and_then (reference_to known) goal.provider;
+  dependencies = goal.dependencies;
+  property_dependencies = goal.property_dependencies;
+  doomed = false;
+  protect = goal.protect;
+  external = is_read_only one.decision;
+  init_errors = result.reasons;
+  additional_secret_outputs = goal.additional_secret_outputs;
+  aliases = goal.aliases;
+  import_id = goal.import_id;
+  retain_on_delete = goal.retain_on_delete;
+  rest = result.rest;
+}
+
+-- what the event that records a goal gives to its entry
+abbrev pub result_kept : Known → ℕ → Goal → Decided → What → Option Result
+result_kept known number goal one (Kept kept fresh) =
+    only_if (kept == number) (Some (result_of_keep goal (claimed_row known.run one.claim) one fresh))
+result_kept known number goal one _ = None
+
+abbrev pub numbers_in : Option ℕ → List ℕ
+numbers_in None = []
+numbers_in (Some number) = number ∷ []
+
+abbrev pub result_answered : Known → ℕ → Decided → Closed → Option Result
+result_answered known number one closed =
+    only_if (has_number (numbers_in (recorded_by_reply closed)) number)
+    (result_of_reply (claimed_row known.run one.claim) closed.reply)
+
+-- what recorded a goal gave to its entry: the event of its keep, or the reply to its operation
+abbrev pub recording_of : Known → ℕ → Goal → Decided → Option Result
+recording_of known number goal one =
+    option_or (first_some (λ event. result_kept known number goal one event.what) known.history)
+    (first_some (result_answered known number one) known.answers)
+
+-- the entry of a recorded goal, without outputs that were told
+abbrev pub entry_of : Known → ℕ → Option Entry
+entry_of known number =
+    option_and_then (λ goal. option_and_then (λ one.
+    option_map (goal_entry known goal one) (recording_of known number goal one))
+    (decided_goal known number)) (goal_at known number)
+
+-- the outputs that a request tells of a goal, if it is accepted
+abbrev pub told_by : ℕ → Request → Option ℕ → Option Pairs
+told_by number (Outputs n urn outputs) (Some about) = only_if (about == number) (Some outputs)
+told_by number _ _ = None
+
+-- the last outputs that were told of a goal
+abbrev pub told_outputs : Known → ℕ → Option Pairs
+told_outputs known number = first_some (λ asked. told_by number asked.request asked.about) known.asked
+
+abbrev pub with_outputs : Option Pairs → Entry → Entry
+with_outputs None entry = entry
+with_outputs (Some outputs) entry =
+    record entry { outputs = marked entry.additional_secret_outputs outputs }
+
+-- the entry of a recorded goal, with the outputs that were told of it
+abbrev pub recorded_entry : Known → ℕ → Option Entry
+recorded_entry known number = option_map (with_outputs (told_outputs known number)) (entry_of known number)
 
 -- the recorded entries, in order of recording
-abbrev pub new_entries : Fixed → List Event → List Entry
-new_entries run [] = []
-new_entries run (event ∷ past) = entries_after event.what (goals_of run past) (new_entries run past)
+abbrev pub new_entries : Known → List Entry
+new_entries known = filter_map (recorded_entry known) (reverse (recorded_of known.history))
 
--- the state of a history
-abbrev pub state_of : Fixed → List Event → Snapshot
-state_of run history = bare_state run.stack (new_entries run history)
+-- ---- old entries
 
--- whether an entry of this URN is recorded
-abbrev pub has_entry : List Entry → List ℕ → Bool
-has_entry entries urn = list_any (λ entry. bytes_eq entry.urn urn) entries
+-- a URN that became another one
+pub record Turning : Type 0 where
+  pub old : List ℕ
+  pub new : List ℕ
 
--- the numbers of the goals that are not recorded after an event
-abbrev pub unrecorded_after : What → Bool → List Goal → List ℕ → List ℕ
-unrecorded_after (Told _) halted goals unrecorded = if halted then unrecorded else length goals ∷ unrecorded
-unrecorded_after (Kept goal _) halted goals unrecorded = filter (λ number. not (number == goal)) unrecorded
-unrecorded_after _ halted goals unrecorded = unrecorded
+-- the URN that a recorded goal turned into its own: that of its claim, where it claimed by an alias
+abbrev pub turning_of : Known → ℕ → Option Turning
+turning_of known number =
+    option_and_then (λ goal. option_and_then (λ row.
+    if bytes_eq row.urn goal.urn then None else Some (record { old = row.urn; new = goal.urn }))
+    (claim_row known number)) (goal_at known number)
 
--- the numbers of the goals that are not recorded yet, newest first
-abbrev pub unrecorded_of : Fixed → List Event → List ℕ
-unrecorded_of run [] = []
-unrecorded_of run (event ∷ past) =
-    unrecorded_after event.what (has_problem past) (goals_of run past) (unrecorded_of run past)
+abbrev pub turnings : Known → List Turning
+turnings known = filter_map (turning_of known) (reverse (recorded_of known.history))
 
-abbrev pub is_unrecorded : List ℕ → ℕ → Bool
-is_unrecorded unrecorded goal = list_any (λ number. number == goal) unrecorded
+abbrev pub turned : Turning → List ℕ → List ℕ
+turned turning urn = if bytes_eq urn turning.old then turning.new else urn
+
+abbrev pub turned_reference : Turning → ProviderRef → ProviderRef
+turned_reference turning reference = record reference { urn = turned turning reference.urn }
+
+-- an entry with a URN turned, its own and those of its references
+abbrev pub turned_entry : Entry → Turning → Entry
+turned_entry entry turning = record entry {
+  urn = turned turning entry.urn;
+  parent = option_map (turned turning) entry.parent;
+  provider = option_map (turned_reference turning) entry.provider;
+  dependencies = map (turned turning) entry.dependencies;
+  property_dependencies = map (λ pair. (pair.0, map (turned turning) pair.1)) entry.property_dependencies;
+}
+
+-- a row as it stands now: turned by every alias, and marked where it was replaced
+abbrev pub row_now : Known → ℕ → Entry → Entry
+row_now known row entry = record (fold turned_entry entry (turnings known)) { doomed = is_marked known row }
+
+abbrev pub old_row : Known → ℕ → Option Entry
+old_row known row = option_map (row_now known row) (row_at known row)
+
+-- the rows that are left, in their order
+abbrev pub old_entries : Known → List Entry
+old_entries known = filter_map (old_row known) (left_rows known)

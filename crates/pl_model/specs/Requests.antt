@@ -1,117 +1,217 @@
--- Requests and the goals that they make.
-use Rattle.std.specs.Prelude.{ℕ, ◌==◌, Bool, true, false, not, nat_lt, ◌&&◌, ◌||◌, if◌then◌else◌, Option, Some, None, is_none, List, [], ◌∷◌, length, filter}
-use Rattle.std.specs.List.{list_any}
-use Rattle.std.specs.Str.{bytes_eq}
-use Rattle.pl_urn.specs.Grammar.{child_text, child_fault}
-use Rattle.pl_state.specs.declared.goal.Registration.{Registration}
+-- The fate of a told request, and the goals that it makes.
+use Rattle.std.specs.Prelude.{ℕ, Bool, true, false, not, ◌&&◌, if◌then◌else◌, Option, None, Some, is_some, is_none, Ok, Err, List, [], ◌∷◌, ◌++◌, length, filter, find, option_map, option_and_then, slice_get, bytes_eq, codes}
+use Rattle.std.specs.List.{before_first, flat_map}
+use Rattle.std.specs.Option.{option_or}
+use Rattle.pl_urn.specs.Grammar.{child_fault, is_colon, package_of}
+use Rattle.pl_value.specs.Marks.{unknown_text}
+use Rattle.pl_value.specs.declared.value.Value.TheVariants as value
+use Rattle.pl_options.specs.GoalOf.{GoalResult, given, goal_of}
+use Rattle.pl_options.specs.Names.{default_name, default_provider_urn, provider_type}
+use Rattle.pl_state.specs.Chain.{some_passes}
+use Rattle.pl_state.specs.Component.{plain_goal}
+use Rattle.pl_state.specs.Kinds.{is_component, is_provided}
+use Rattle.pl_reference.specs.Reference.{is_reference, reference_in}
+use Rattle.pl_state.specs.Sound.{keeps_urn}
+use Rattle.pl_state.specs.declared.entry.Entry.{Entry}
+use Rattle.pl_state.specs.declared.fault.OptionFault.TheVariants.{BadUrn, BadReference}
 use Rattle.pl_state.specs.declared.goal.Goal.{Goal}
-use Rattle.pl_state.specs.Component.{is_plain, plain_goal}
-use Rattle.pl_events.specs.declared.event.Event.{Event}
-use Rattle.pl_events.specs.declared.event.What.{What}
-use Rattle.pl_events.specs.declared.event.What.TheVariants.{Told, Posted}
+use Rattle.pl_state.specs.declared.goal.Registration.{Registration}
 use Rattle.pl_events.specs.declared.event.Request.{Request}
 use Rattle.pl_events.specs.declared.event.Request.TheVariants.{Register, Outputs, Invoke}
-use Rattle.pl_model.specs.Run.{Fixed}
-use Rattle.pl_model.specs.Problems.{has_problem}
+use Rattle.pl_decide.specs.declared.problem.Problem.{Problem}
+use Rattle.pl_decide.specs.declared.problem.Problem.TheVariants.{BadOption, UnknownReference, DuplicateUrn, OutputsOfCustom}
+use Rattle.pl_model.specs.Run.{Pairs, rows_of}
+use Rattle.pl_model.specs.Claims.{goal_number}
+use Rattle.pl_model.specs.Known.{Fate, halted, refused, accepted, Asked, Known, has_problem, goal_at, is_recorded, provider_id}
 
--- a request's number
-abbrev pub number_of : Request → ℕ
-number_of (Register n told) = n
-number_of (Outputs n _ _) = n
-number_of (Invoke n _ _ _ _) = n
+abbrev pub fate_by : Option Problem → Fate
+fate_by None = accepted
+fate_by (Some problem) = refused problem
 
--- the number of the newest request that was told, 0 where none was
-abbrev pub number_after : What → ℕ → ℕ
-number_after (Told request) before = number_of request
-number_after _ before = before
+abbrev pub has_goal : Known → List ℕ → Bool
+has_goal known urn = is_some (goal_number known.goals urn)
 
-abbrev pub last_number : List Event → ℕ
-last_number [] = 0
-last_number (event ∷ past) = number_after event.what (last_number past)
+-- ---- references
 
--- the goal that a registration makes
-abbrev pub goal_for : Fixed → Registration → Goal
-goal_for run told =
-    plain_goal (child_text told.parent run.stack run.project told.kind told.name) told.kind told.parent
+-- whether a goal is recorded under this id
+abbrev pub has_id : Known → List ℕ → ℕ → Bool
+has_id known id goal = is_recorded known goal && some_passes (λ own. bytes_eq own id) (provider_id known goal)
 
--- whether a request is a registration
-abbrev pub is_registration : Request → Bool
-is_registration (Register _ _) = true
-is_registration _ = false
+-- whether a provider reference names an earlier goal that is recorded with the reference's id
+abbrev pub is_met : Known → List ℕ × List ℕ → Bool
+is_met known reference = some_passes (has_id known reference.1) (goal_number known.goals reference.0)
 
--- the goals with the one that a request makes; only a registration makes one
-abbrev pub with_goal : Fixed → Request → List Goal → List Goal
-with_goal run (Register n told) goals = goal_for run told ∷ goals
-with_goal run _ goals = goals
+abbrev pub is_met_reference : Known → List ℕ → Bool
+is_met_reference known text = some_passes (is_met known) (reference_in text)
 
--- the goals after an event, newest first: a request that is told makes one, unless a problem halted it
-abbrev pub goals_after : Fixed → What → Bool → List Goal → List Goal
-goals_after run (Told request) halted goals = if halted then goals else with_goal run request goals
-goals_after run _ halted goals = goals
+abbrev pub option_list : {X : Type 0} → Option X → List X
+option_list None = []
+option_list (Some x) = x ∷ []
 
--- the goals of a history, newest first; a goal's number is the count of the goals before it
-abbrev pub goals_of : Fixed → List Event → List Goal
-goals_of run [] = []
-goals_of run (event ∷ past) = goals_after run event.what (has_problem past) (goals_of run past)
+-- the references of a registration that name no earlier goal, in the order in which they are tried
+abbrev pub unknown_references : Known → Registration → Goal → List (List ℕ)
+unknown_references known told goal =
+    filter (λ urn. not (has_goal known urn)) (option_list goal.parent)
+    ++ (filter (λ text. not (is_met_reference known text)) (option_list (given told.provider))
+    ++ filter (λ urn. not (has_goal known urn)) (goal.dependencies ++ flat_map (λ pair. pair.1) goal.property_dependencies))
 
--- the goal of this number, if there is one
-abbrev pub goal_at : List Goal → ℕ → Option Goal
-goal_at [] number = None
-goal_at (goal ∷ earlier) number = if length earlier == number then Some goal else goal_at earlier number
+abbrev pub first_in : {X : Type 0} → List X → Option X
+first_in xs = slice_get xs 0
 
--- whether one of the goals has this URN
-abbrev pub has_goal : List Goal → List ℕ → Bool
-has_goal goals urn = list_any (λ goal. bytes_eq goal.urn urn) goals
+-- the number of the goal that a provider reference names
+abbrev pub named_provider : Known → Option (List ℕ) → Option ℕ
+named_provider known text =
+    option_and_then (λ reference. goal_number known.goals reference.0) (option_and_then reference_in text)
 
--- whether a registration's parent is none or one of the goals
-abbrev pub has_parent : List Goal → Option (List ℕ) → Bool
-has_parent goals None = true
-has_parent goals (Some urn) = has_goal goals urn
+-- ---- default providers
 
--- whether a registration may be accepted: it is a component's without an option, its type and name make a
--- URN, its parent is an earlier goal, and no earlier goal has its URN
-abbrev pub is_acceptable : Fixed → List Goal → Registration → Bool
-is_acceptable run goals told =
-    is_plain told && is_none (child_fault told.kind told.name)
-    && (has_parent goals told.parent && not (has_goal goals (goal_for run told).urn))
+-- whether a registration uses the default provider of its package: it is provided for and names no provider
+abbrev pub uses_default : Registration → Goal → Bool
+uses_default told goal = is_provided goal && is_none (given told.provider)
 
--- whether a request may stand after this history: a problem halts every registration, and nothing else is
--- asked of one that is halted; other requests may not stand yet
-abbrev pub may_stand : Fixed → List Event → Request → Bool
-may_stand run past (Register n told) = has_problem past || is_acceptable run (goals_of run past) told
-may_stand run past _ = false
+abbrev pub default_urn : Known → List ℕ → Option (List ℕ) → List ℕ
+default_urn known provided version = default_provider_urn known.run.stack known.run.project provided version
 
--- whether a request may be told after this history: its number is above every told one, and it may stand
-abbrev pub may_be_next : Fixed → List Event → Request → Bool
-may_be_next run past request =
-    nat_lt (last_number past) (number_of request) && may_stand run past request
+-- the inputs of a default provider that has no row: its version alone
+abbrev pub version_inputs : Option (List ℕ) → Pairs
+version_inputs None = []
+version_inputs (Some version) = (codes "version", value.Text version) ∷ []
 
--- a request that waits for its answer: its number, and the number of the goal that it made, if any
-pub record Waiting : Type 0 where
-  pub number : ℕ
-  pub made : Option ℕ
+abbrev pub inputs_or : Option Entry → Pairs → Pairs
+inputs_or None others = others
+inputs_or (Some row) others = row.inputs
 
--- the number of the goal that a request makes when it is told
-abbrev pub made_by : Bool → List Goal → Option ℕ
-made_by halted goals = if halted then None else Some (length goals)
+-- a default provider's own goal: it keeps the inputs of the row with its URN
+abbrev pub default_goal : Known → List ℕ → Option (List ℕ) → Goal
+default_goal known provided version =
+    record (plain_goal (default_urn known provided version) (provider_type provided) None) {
+      custom = true;
+      inputs = inputs_or (find (keeps_urn (default_urn known provided version)) (rows_of known.run)) (version_inputs version);
+      version = version;
+    }
 
--- what waits after an event: a request that is told waits until its answer is posted
-abbrev pub waiting_after : What → Option ℕ → List Waiting → List Waiting
-waiting_after (Told request) made waiting = record { number = number_of request; made = made } ∷ waiting
-waiting_after (Posted n) made waiting = filter (λ request. not (request.number == n)) waiting
-waiting_after _ made waiting = waiting
+-- the goals with the default provider's own, which is made where it does not stand yet
+abbrev pub with_default : Known → List ℕ → Option (List ℕ) → List Goal
+with_default known provided version =
+    if has_goal known (default_urn known provided version) then known.goals
+    else default_goal known provided version ∷ known.goals
 
--- the told requests that wait for their answer, newest first
-abbrev pub waiting_of : Fixed → List Event → List Waiting
-waiting_of run [] = []
-waiting_of run (event ∷ past) =
-    waiting_after event.what (made_by (has_problem past) (goals_of run past)) (waiting_of run past)
+-- whether the type of a default provider makes no URN
+abbrev pub is_bad_default : List ℕ → Option (List ℕ) → Bool
+is_bad_default provided version = is_some (child_fault (provider_type provided) (default_name version))
 
--- whether a request of this number waits
-abbrev pub is_waiting : List Waiting → ℕ → Bool
-is_waiting waiting n = list_any (λ request. request.number == n) waiting
+abbrev pub refused_if : Bool → Problem → Option Problem
+refused_if true problem = Some problem
+refused_if false problem = None
 
--- the goal that the waiting request of this number made, if any
-abbrev pub made_for : List Waiting → ℕ → Option ℕ
-made_for [] n = None
-made_for (request ∷ others) n = if request.number == n then request.made else made_for others n
+-- ---- registrations
+
+-- why a registration with a goal is refused: its default provider has no URN, it refers to what is no earlier
+-- goal, or an earlier goal has its URN
+abbrev pub goal_refusal : Known → Registration → Goal → Option Problem
+goal_refusal known told goal =
+    option_or (refused_if (uses_default told goal && is_bad_default (package_of goal.urn) goal.version) (BadOption (BadUrn goal.kind)))
+    (option_or (option_map UnknownReference (first_in (unknown_references known told goal)))
+    (refused_if (has_goal known goal.urn) (DuplicateUrn goal.urn)))
+
+abbrev pub result_refusal : Known → Registration → GoalResult → Option Problem
+result_refusal known told (Err fault) = Some (BadOption fault)
+result_refusal known told (Ok goal) = goal_refusal known told goal
+
+abbrev pub registration_refusal : Known → Registration → Option Problem
+registration_refusal known told = result_refusal known told (goal_of known.run.stack known.run.project told)
+
+abbrev pub with_provider : List Goal → List ℕ → Goal → List Goal
+with_provider goals urn goal = record goal { provider = goal_number goals urn } ∷ goals
+
+-- the goals with that of a registration, its provider's number put in
+abbrev pub with_goal : Known → Registration → Goal → List Goal
+with_goal known told goal =
+    if uses_default told goal
+    then with_provider (with_default known (package_of goal.urn) goal.version) (default_urn known (package_of goal.urn) goal.version) goal
+    else record goal { provider = named_provider known (given told.provider) } ∷ known.goals
+
+abbrev pub with_result : Known → Registration → GoalResult → List Goal
+with_result known told (Err fault) = known.goals
+with_result known told (Ok goal) = with_goal known told goal
+
+-- ---- outputs and invokes
+
+-- why told outputs are refused: the URN is no goal's, or that goal is no component
+abbrev pub outputs_refusal : Known → List ℕ → Option Goal → Option Problem
+outputs_refusal known urn None = Some (UnknownReference urn)
+outputs_refusal known urn (Some goal) = refused_if (not (is_component goal)) (OutputsOfCustom goal.urn)
+
+abbrev pub goal_with_urn : Known → List ℕ → Option Goal
+goal_with_urn known urn = option_and_then (goal_at known) (goal_number known.goals urn)
+
+-- the package of a token: what stands before its first `:`
+abbrev pub token_package : List ℕ → List ℕ
+token_package token = before_first is_colon token
+
+abbrev pub unless_unknown : Option (List ℕ) → Option (List ℕ)
+unless_unknown None = None
+unless_unknown (Some text) = if bytes_eq text unknown_text then None else Some text
+
+-- the version that an invoke names; the empty text and that of the unknown name none
+abbrev pub invoked_version : Option (List ℕ) → Option (List ℕ)
+invoked_version version = unless_unknown (given version)
+
+-- why an invoke is refused, by the provider that it names or else by its default one
+abbrev pub invoke_refusal : Known → List ℕ → Option (List ℕ) → Option (List ℕ) → Option Problem
+invoke_refusal known token None version =
+    refused_if (is_bad_default (token_package token) version) (BadOption (BadUrn token))
+invoke_refusal known token (Some text) version =
+    option_or (refused_if (not (is_reference text)) (BadOption (BadReference text)))
+    (refused_if (not (is_met_reference known text)) (UnknownReference text))
+
+-- the goals after an invoke: the default provider's own where it names none
+abbrev pub with_invoked : Known → List ℕ → Option (List ℕ) → Option (List ℕ) → List Goal
+with_invoked known token None version = with_default known (token_package token) version
+with_invoked known token (Some text) version = known.goals
+
+-- ---- fates
+
+abbrev pub refusal_of : Known → Request → Option Problem
+refusal_of known (Register n told) = registration_refusal known told
+refusal_of known (Outputs n urn outputs) = outputs_refusal known urn (goal_with_urn known urn)
+refusal_of known (Invoke n token args provider version) =
+    invoke_refusal known token (given provider) (invoked_version version)
+
+-- what becomes of a request that is told after this history
+abbrev pub fate_of : Known → Request → Fate
+fate_of known request = if has_problem known then halted else fate_by (refusal_of known request)
+
+-- the goals with those that an accepted request makes
+abbrev pub goals_made : Known → Request → List Goal
+goals_made known (Register n told) = with_result known told (goal_of known.run.stack known.run.project told)
+goals_made known (Outputs n urn outputs) = known.goals
+goals_made known (Invoke n token args provider version) =
+    with_invoked known token (given provider) (invoked_version version)
+
+abbrev pub goals_by : Known → Request → Fate → List Goal
+goals_by known request accepted = goals_made known request
+goals_by known request halted = known.goals
+goals_by known request (refused problem) = known.goals
+
+-- the provider that an invoke is for
+abbrev pub invoked_provider : Known → List ℕ → Option (List ℕ) → Option (List ℕ) → Option ℕ
+invoked_provider known token None version =
+    goal_number (with_default known (token_package token) version) (default_urn known (token_package token) version)
+invoked_provider known token (Some text) version = named_provider known (Some text)
+
+-- the number of the newest of the goals
+abbrev pub newest_number : List Goal → Option ℕ
+newest_number [] = None
+newest_number (goal ∷ earlier) = Some (length earlier)
+
+-- the goal that an accepted request is about
+abbrev pub about_of : Known → Request → Option ℕ
+about_of known (Register n told) = newest_number (goals_made known (Register n told))
+about_of known (Outputs n urn outputs) = goal_number known.goals urn
+about_of known (Invoke n token args provider version) =
+    invoked_provider known token (given provider) (invoked_version version)
+
+abbrev pub asked_by : Known → Request → Fate → Asked
+asked_by known request accepted = record { request = request; fate = accepted; about = about_of known request }
+asked_by known request fate = record { request = request; fate = fate; about = None }

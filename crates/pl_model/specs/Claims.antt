@@ -1,0 +1,114 @@
+-- Goals by their numbers, and the rows of the state at the start that they claim.
+use Rattle.std.specs.Prelude.{ℕ, ◌==◌, Bool, false, not, ◌&&◌, if◌then◌else◌, Option, None, Some, List, [], ◌∷◌, length, find, option_map, option_and_then, slice_get, bytes_eq}
+use Rattle.std.specs.Bool.{beq}
+use Rattle.std.specs.List.{list_any, enumerate_from}
+use Rattle.std.specs.Option.{option_or}
+use Rattle.pl_urn.specs.Grammar.{is_empty, is_colon}
+use Rattle.pl_urn.specs.Cut.{has_cut}
+use Rattle.pl_state.specs.Chain.{chain_of}
+use Rattle.pl_state.specs.Kinds.{is_provider_goal, is_provider_row}
+use Rattle.pl_state.specs.Sound.{has_urn}
+use Rattle.pl_state.specs.declared.entry.Entry.{Entry}
+use Rattle.pl_state.specs.declared.goal.Goal.{Goal}
+use Rattle.pl_decide.specs.declared.decision.Decision.{Decision}
+use Rattle.pl_decide.specs.declared.decision.Decision.TheVariants.{Replace}
+use Rattle.pl_model.specs.Run.{Fixed, Pairs, rows_of}
+use Rattle.pl_model.specs.Recording.{has_number}
+
+-- Goals and what is decided of them stand newest first; a goal's number is the count of the goals before it.
+abbrev pub numbered : {X : Type 0} → List X → ℕ → Option X
+numbered [] number = None
+numbered (newest ∷ earlier) number = if length earlier == number then Some newest else numbered earlier number
+
+-- the number of the newest one that passes a test
+abbrev pub number_where : {X : Type 0} → (X → Bool) → List X → Option ℕ
+number_where test [] = None
+number_where test (newest ∷ earlier) = if test newest then Some (length earlier) else number_where test earlier
+
+-- the number of the goal with this URN
+abbrev pub goal_number : List Goal → List ℕ → Option ℕ
+goal_number goals urn = number_where (λ goal. bytes_eq goal.urn urn) goals
+
+-- the first thing that is found for one of the list
+abbrev pub first_some : {X Y : Type 0} → (X → Option Y) → List X → Option Y
+first_some found [] = None
+first_some found (x ∷ others) = option_or (found x) (first_some found others)
+
+-- what is decided of a goal: the row that it claims, its inputs as they are checked and as the check gave
+-- them, and the decision
+pub record Decided : Type 0 where
+  pub claim : Option ℕ
+  pub inputs : Pairs
+  pub checked : Pairs
+  pub decision : Decision
+
+-- whether the old thing is deleted before the new one is made
+abbrev pub is_delete_first : Decision → Bool
+is_delete_first (Replace first) = not first
+is_delete_first _ = false
+
+-- whether the new thing is made before the old one is deleted
+abbrev pub is_create_first : Decision → Bool
+is_create_first (Replace first) = first
+is_create_first _ = false
+
+abbrev pub is_row : Option ℕ → ℕ → Bool
+is_row None row = false
+is_row (Some own) row = own == row
+
+-- the chain of a claim, if there is one
+abbrev pub chain_of_claim : Fixed → Option ℕ → List ℕ
+chain_of_claim run None = []
+chain_of_claim run (Some row) = chain_of (rows_of run) row
+
+-- the chain of a goal: that of its claim, where it is deleted first
+abbrev pub chain_of_goal : Fixed → Decided → List ℕ
+chain_of_goal run decided = if is_delete_first decided.decision then chain_of_claim run decided.claim else []
+
+-- whether one of the decided goals claims the row
+abbrev pub is_claimed : List Decided → ℕ → Bool
+is_claimed decided row = list_any (λ one. is_row one.claim row) decided
+
+-- whether the row is in the chain of one of the decided goals
+abbrev pub is_chained : Fixed → List Decided → ℕ → Bool
+is_chained run decided row = list_any (λ one. has_number (chain_of_goal run one) row) decided
+
+-- whether a goal may claim a row by a URN: the row is not to be deleted, no earlier goal claims it or has it
+-- in its chain, and a provider claims providers alone, which no other goal claims
+abbrev pub may_claim : Fixed → List Decided → Goal → List ℕ → ℕ × Entry → Bool
+may_claim run before goal urn numbered_row =
+    not numbered_row.1.doomed && has_urn urn numbered_row.1
+    && beq (is_provider_goal goal) (is_provider_row numbered_row.1)
+    && not (is_claimed before numbered_row.0) && not (is_chained run before numbered_row.0)
+
+abbrev pub claim_by : Fixed → List Decided → Goal → List ℕ → Option ℕ
+claim_by run before goal urn =
+    option_map (λ found. found.0) (find (may_claim run before goal urn) (enumerate_from 0 (rows_of run)))
+
+-- the row that a goal claims, after what is decided of the goals before it: by its URN, then by its aliases in
+-- order
+abbrev pub claim_for : Fixed → List Decided → Goal → Option ℕ
+claim_for run before goal = first_some (claim_by run before goal) (goal.urn ∷ goal.aliases)
+
+-- the row of a claim
+abbrev pub claimed_row : Fixed → Option ℕ → Option Entry
+claimed_row run claim = option_and_then (λ row. slice_get (rows_of run) row) claim
+
+-- the goal that claims a row, by its number
+abbrev pub claimer_of : List Decided → ℕ → Option ℕ
+claimer_of decided row = number_where (λ one. is_row one.claim row) decided
+
+-- an id that a reference can name: it holds no `::` and does not begin with `:`
+abbrev pub begins_with_colon : List ℕ → Bool
+begins_with_colon [] = false
+begins_with_colon (first ∷ others) = is_colon first
+
+abbrev pub is_usable : List ℕ → Bool
+is_usable id = not (is_empty id) && not (has_cut id) && not (begins_with_colon id)
+
+abbrev pub usable_id : Option (List ℕ) → Option (List ℕ)
+usable_id None = None
+usable_id (Some id) = if is_usable id then Some id else None
+
+abbrev pub id_of_row : Option Entry → Option (List ℕ)
+id_of_row row = option_and_then (λ entry. entry.id) row

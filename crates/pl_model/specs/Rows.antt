@@ -1,0 +1,110 @@
+-- The rows of the state at the start during a run: which are left, which are to be deleted, and by whom they are
+-- provided for.
+use Rattle.std.specs.Prelude.{ℕ, Bool, not, ◌&&◌, ◌||◌, nat_lt, Option, None, Some, List, length, filter, option_map, option_and_then, slice_get}
+use Rattle.std.specs.List.{list_any, range_with_len}
+use Rattle.pl_state.specs.Chain.{last_provider, provider_row_of, refers_to, some_passes}
+use Rattle.pl_state.specs.Kinds.{is_provided_row}
+use Rattle.pl_state.specs.declared.entry.Entry.{Entry}
+use Rattle.pl_state.specs.declared.pending.Pending.{Pending}
+use Rattle.pl_events.specs.declared.operation.Source.{Source}
+use Rattle.pl_events.specs.declared.operation.Source.TheVariants as source
+use Rattle.pl_decide.specs.Permits.{is_wanted}
+use Rattle.pl_model.specs.Run.{rows_of, is_destroy, is_refresh}
+use Rattle.pl_model.specs.Recording.{has_number, only_if, removed_of}
+use Rattle.pl_model.specs.Claims.{Decided, chain_of_goal, claimer_of, is_claimed, is_create_first, is_delete_first, is_row}
+use Rattle.pl_model.specs.Known.{Known, decided_goal, goal_at, is_over, is_recorded}
+
+abbrev pub row_at : Known → ℕ → Option Entry
+row_at known row = slice_get (rows_of known.run) row
+
+-- the numbers of the rows
+abbrev pub row_numbers : Known → List ℕ
+row_numbers known = range_with_len 0 (length (rows_of known.run))
+
+-- the goal that claims a row and is recorded
+abbrev pub recorded_claimer : Known → ℕ → Option ℕ
+recorded_claimer known row =
+    option_and_then (λ goal. only_if (is_recorded known goal) (Some goal)) (claimer_of known.decided row)
+
+-- whether a recorded goal put a new thing beside the one of its claim
+abbrev pub stands_beside : Known → ℕ → Bool
+stands_beside known goal = some_passes (λ one. is_create_first one.decision) (decided_goal known goal)
+
+-- whether a row was taken over: a recorded goal claims it and does not have it stand beside its own thing
+abbrev pub is_taken_over : Known → ℕ → Bool
+is_taken_over known row = some_passes (λ goal. not (stands_beside known goal)) (recorded_claimer known row)
+
+-- whether a row was replaced by a recorded goal and is still to be deleted
+abbrev pub is_replaced : Known → ℕ → Bool
+is_replaced known row = some_passes (stands_beside known) (recorded_claimer known row)
+
+-- whether a row is still among the old entries
+abbrev pub is_left : Known → ℕ → Bool
+is_left known row =
+    nat_lt row (length (rows_of known.run))
+    && not (has_number (removed_of known.history) row) && not (is_taken_over known row)
+
+-- the numbers of the rows that are left, in order
+abbrev pub left_rows : Known → List ℕ
+left_rows known = filter (is_left known) (row_numbers known)
+
+-- whether a row is marked to be deleted: in the state at the start, or since it was replaced
+abbrev pub is_marked : Known → ℕ → Bool
+is_marked known row = some_passes (λ entry. entry.doomed) (row_at known row) || is_replaced known row
+
+-- whether a goal that is deleted first takes the row along: it is the goal's claim, or it is in its chain and
+-- nobody claims it or it is marked
+abbrev pub takes_along : Known → ℕ → Decided → Bool
+takes_along known row one =
+    is_delete_first one.decision
+    && (is_row one.claim row
+    || (has_number (chain_of_goal known.run one) row && (not (is_claimed known.decided row) || is_marked known row)))
+
+-- in a run that deletes everything, whether the limits leave the row to be deleted
+abbrev pub is_target : Known → ℕ → Bool
+is_target known row =
+    not (is_destroy known.run.mode) || some_passes (λ entry. is_wanted known.run.limits entry.urn) (row_at known row)
+
+-- whether a row that is left is to be deleted or dropped: some goal takes it along, or the host has ended and
+-- every goal is recorded; in a run that reads everything anew, none is
+abbrev pub is_doomed : Known → ℕ → Bool
+is_doomed known row =
+    is_left known row && not (is_refresh known.run.mode) && is_target known row
+    && (is_over known || list_any (takes_along known row) known.decided)
+
+-- whether the deletion of a row is sent to a provider; a component, a provider, and what is only read or is to
+-- be retained are dropped
+abbrev pub is_sent : Entry → Bool
+is_sent row = is_provided_row row && not row.external && not row.retain_on_delete
+
+-- whether a later row that refers to this one is left
+abbrev pub has_dependents : Known → ℕ → Bool
+has_dependents known row =
+    list_any (λ later. refers_to (rows_of known.run) later row && is_left known later) (row_numbers known)
+
+-- ---- sources
+
+abbrev pub source_by : ℕ → Option ℕ → Source
+source_by row None = source.Row row
+source_by row (Some goal) = source.Goal goal
+
+-- the source of a provider's row: the goal that claims it once that is recorded, and the row itself before
+abbrev pub source_of_provider : Known → ℕ → Source
+source_of_provider known row = source_by row (recorded_claimer known row)
+
+-- the source of a row's operations
+abbrev pub source_of_row : Known → ℕ → Option Source
+source_of_row known row = option_map (source_of_provider known) (provider_row_of (rows_of known.run) row)
+
+abbrev pub pending_at : Known → ℕ → Option Pending
+pending_at known at = slice_get known.run.base.pending at
+
+-- the source of a pending operation: its provider's row is the last one that its reference names
+abbrev pub source_of_pending : Known → ℕ → Option Source
+source_of_pending known at =
+    option_map (source_of_provider known)
+    (option_and_then (λ pending. last_provider pending.entry.provider (rows_of known.run)) (pending_at known at))
+
+-- the source of a goal's operations: the goal of its provider
+abbrev pub source_of_goal : Known → ℕ → Option Source
+source_of_goal known goal = option_map source.Goal (option_and_then (λ one. one.provider) (goal_at known goal))

@@ -1,0 +1,5 @@
+use Rattle.pl_model_laws.proofs.Once as proof
+use Rattle.pl_model_laws.proofs.laws.closed_once.Goals as goal
+
+pub returns : goal.returns
+returns c = λ run spelling history ticket legal. proof.closed_at_most_once run spelling history ticket legal

@@ -1,0 +1,26 @@
+ghost use Rattle.pl_model_laws.specs.Laws.{BegunOnce, ClosedOnce, DecisionsStay, GoalsStay, RecordingsStay};
+
+/// The law that a goal keeps its number when the history grows. It is proved and does nothing, as those below.
+pub fn goals_stay()
+    ensures { GoalsStay }
+{}
+
+/// The law that what is decided stays when the history grows.
+pub fn decisions_stay()
+    ensures { DecisionsStay }
+{}
+
+/// The law that what is recorded stays recorded.
+pub fn recordings_stay()
+    ensures { RecordingsStay }
+{}
+
+/// The law that a ticket is closed at most once in a legal history.
+pub fn closed_once()
+    ensures { ClosedOnce }
+{}
+
+/// The law that a legal history begins no operation twice, but that each lane of a provider is configured.
+pub fn begun_once()
+    ensures { BegunOnce }
+{}

@@ -1,0 +1,9 @@
+pub mod Pieces
+pub mod Prefixes
+pub mod OneComponent
+pub mod FirstCreate
+pub mod SecondRun
+pub mod CreateFirst
+pub mod Renamed
+pub mod Destroyed
+pub mod ReadAnew
