@@ -5,6 +5,8 @@ use Rattle.std.proofs.lemmas.List.{length-map, length-reverse, map-append, rever
 use Rattle.std.proofs.lemmas.List.Folds.{list_all-append, list_any-append}
 use Rattle.std.specs.List.{list_any}
 use Rattle.std.specs.Str.{bytes_eq}
+use Rattle.pl_model.specs.Known.{number_of}
+use Rattle.pl_model.specs.Run.{most_resources}
 use Rattle.pl_state.specs.declared.goal.Goal.{Goal}
 use Rattle.pl_state.specs.declared.goal.Registration.{Registration}
 use Rattle.pl_state.specs.declared.entry.Entry.{Entry}
@@ -12,15 +14,15 @@ use Rattle.pl_events.specs.Closing.{has_host_end, has_stop}
 use Rattle.pl_events.specs.declared.event.Event.{Event}
 use Rattle.pl_events.specs.declared.event.Stop.{Stop}
 use Rattle.pl_state.specs.Component.{is_plain}
-use Rattle.pl_model.specs.Run.{Fixed, most_resources}
-use Rattle.pl_model.specs.Problems.{has_problem}
-use Rattle.pl_model.specs.Requests.{Waiting, goal_at, goal_for, goals_of, has_goal, has_parent, is_acceptable, is_registration, last_number, may_be_next, number_of, waiting_of}
+use Rattle.pl_components.specs.Run.{Fixed}
+use Rattle.pl_components.specs.Problems.{has_problem}
+use Rattle.pl_components.specs.Requests.{Waiting, goal_at, goal_for, goals_of, has_goal, has_parent, is_acceptable, is_registration, last_number, may_be_next, waiting_of}
 use Rattle.pl_events.specs.declared.event.Request.TheVariants.{Register}
 use Rattle.pl_urn.specs.Grammar.{child_fault}
-use Rattle.pl_model.specs.Saves.{must_save}
+use Rattle.pl_components.specs.Saves.{must_save}
 use Rattle.pl_engine.proofs.Answering.{is_unposted}
-use Rattle.pl_model.specs.Entries.{entry_if, entry_of, has_entry, new_entries, unrecorded_of}
-use Rattle.pl_model.specs.Due.{NothingDue, is_post_due, is_ready, parent_stands, result_of}
+use Rattle.pl_components.specs.Entries.{entry_if, entry_of, has_entry, new_entries, unrecorded_of}
+use Rattle.pl_components.specs.Due.{NothingDue, is_post_due, is_ready, parent_stands, result_of}
 use Rattle.pl_engine.specs.Journal.{Consistent, end_event, kept_event, posted_event, run_of, stop_event, told_event}
 use Rattle.pl_events.specs.declared.event.Request.{Request}
 use Rattle.pl_events.specs.declared.event.What.{What}

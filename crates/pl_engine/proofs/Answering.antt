@@ -3,7 +3,8 @@ use Rattle.std.proofs.Common.{◌≡◌, ◌⊎◌, ℕ, ◌<◌, ◌≤◌, Boo
 use Rattle.std.proofs.lemmas.Bool.Decides.{nat_tests}
 use Rattle.std.proofs.lemmas.List.Elements.{All-append}
 use Rattle.std.specs.List.{list_all}
-use Rattle.pl_value.specs.declared.memory.OutOfMemory.{OutOfMemory}
+use Rattle.pl_model.specs.Run.{longest_body}
+use Rattle.pl_text.specs.declared.memory.OutOfMemory.{OutOfMemory}
 use Rattle.pl_state.specs.declared.goal.Goal.{Goal}
 use Rattle.pl_events.specs.declared.event.Answer.{Answer}
 use Rattle.pl_events.specs.declared.event.Answer.TheVariants.{Registered}
@@ -21,10 +22,11 @@ use Rattle.pl_world.specs.declared.trouble.Trouble.TheVariants.{Failed}
 use Rattle.pl_world.specs.Counts.{Rose}
 use Rattle.pl_world.specs.Frames.{IsBody, frame_of}
 use Rattle.pl_world.specs.Told.{Bears, Gave, Piece, bytes_of}
-use Rattle.pl_model.specs.Run.{Fixed, longest_body}
-use Rattle.pl_model.specs.Problems.{has_problem}
-use Rattle.pl_model.specs.Due.{answer_for, answer_of, halted, is_post_due, is_too_long, result_of}
-use Rattle.pl_model.specs.HostLines.{HostGave, answers_after, answers_of}
+use Rattle.pl_components.specs.Run.{Fixed}
+use Rattle.pl_components.specs.Problems.{has_problem}
+use Rattle.pl_events.specs.Halted.{halted}
+use Rattle.pl_components.specs.Due.{answer_for, answer_of, is_post_due, is_too_long, result_of}
+use Rattle.pl_components.specs.HostLines.{HostGave, answers_after, answers_of}
 use Rattle.pl_engine.specs.Spelled.{host_spelling}
 use Rattle.pl_engine.specs.Journal.{posted_event, stop_event, stopped_by}
 use Rattle.pl_engine.specs.Stored.{Adds}

@@ -6,7 +6,7 @@ use Rattle.pl_cli.specs.declared.command.RunWords.{RunWords}
 use Rattle.pl_cli.specs.Reading.{host_words}
 use Rattle.pl_world.specs.Counts.{Rose}
 use Rattle.pl_world.specs.Told.{IsPresentContent}
-use Rattle.pl_model.specs.Run.{Fixed}
+use Rattle.pl_components.specs.Run.{Fixed}
 use Rattle.pl_engine.specs.Spelled.{host_spelling}
 use Rattle.pl_engine.specs.Stored.{IsKeptUp}
 use Rattle.pl_cli.specs.declared.command.Command.{Command}
@@ -86,6 +86,14 @@ started-words (Some _) before now words run theirs is h = (
   theirs,
   h ∙ ap (λ (host : List (List ℕ)). before ++ command_words host run.stack run.project ∷ []) is,
 )
+
+-- what is said of a run by its names is said of the run of the words
+pub of-words : {A : Type 0} (host : Option A) (words : List (List ℕ)) (run : RunWords) (Says : Fixed → A → Type 0)
+    → IsRunOf words (record { stack = run.stack; project = run.project })
+    → IfSome host (λ used. Says (record { stack = run.stack; project = run.project }) used)
+    → IfSome host (λ used. (r : Fixed) × IsRunOf words r × Says r used)
+of-words None words run Says theirs h = h
+of-words (Some used) words run Says theirs h = (record { stack = run.stack; project = run.project }, theirs, h)
 
 -- an outcome of the store alone is one from before the run
 pub early-unread : (content : Option (List (List ℕ))) (store spawner : Type 0) (outcome : Outcome) → IsUnread content store outcome → IsEarly content store spawner outcome

@@ -4,7 +4,7 @@ use Rattle.std.proofs.lemmas.Slice.Eq.{bytes_eq-Decides}
 use Rattle.std.specs.List.{list_any}
 use Rattle.std.specs.Str.{bytes_eq}
 use Rattle.pl_state.specs.declared.entry.Entry.{Entry}
-use Rattle.pl_model.specs.Entries.{has_entry}
+use Rattle.pl_components.specs.Entries.{has_entry}
 use denote.Ref.{Bor}
 
 pub find-passes : {X : Type 0} (p : X → Bool) (xs : List X) (x : X) → find p xs ≡ Some x → p x ≡ true

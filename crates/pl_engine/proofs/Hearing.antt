@@ -1,6 +1,7 @@
 -- What was taken from the host stands to the history as the definitions say.
 use Rattle.std.proofs.Common.{◌≡◌, ℕ, ◌≤◌, ◌^◌, Bool, true, false, List, [], ◌∷◌, ◌++◌, Option, Some, None, option_and_then, IfSome, refl, sym, ◌∙◌, ap, subst, inl, inr, arith}
 use Rattle.std.specs.List.{list_all}
+use Rattle.pl_model.specs.Frames.{Causes}
 use Rattle.pl_state.specs.declared.goal.Registration.{Registration}
 use Rattle.pl_events.specs.declared.event.Event.{Event}
 use Rattle.pl_events.specs.declared.event.What.{What}
@@ -12,13 +13,14 @@ use Rattle.pl_events.specs.declared.event.HostEnd.TheVariants.{Success, Error, E
 use Rattle.pl_host_msg.specs.declared.word.HostWord.{HostWord}
 use Rattle.pl_host_msg.specs.declared.word.HostWord.TheVariants.{Request as Asks, Success as Done}
 use Rattle.pl_host_msg.specs.Word.{word_of}
-use Rattle.pl_host_msg.proofs.Numbers.{word_number_in_range}
+use Rattle.pl_host_msg.proofs.Numbers.{word_number_in_range, word_type_plain}
 use Rattle.pl_world.specs.Counts.{Rose}
 use Rattle.pl_world.specs.Told.{Grew}
 use Rattle.pl_world.specs.Frames.{IsBody, frame_of}
-use Rattle.pl_model.specs.Run.{Fixed}
-use Rattle.pl_model.specs.Requests.{may_be_next}
-use Rattle.pl_model.specs.HostLines.{Causes, EndAdds, HostTook, IsNoMessage, TookAfter}
+use Rattle.pl_components.specs.Run.{Fixed}
+use Rattle.pl_components.specs.Legal.{IsSpelled}
+use Rattle.pl_components.specs.Requests.{may_be_next}
+use Rattle.pl_components.specs.HostLines.{EndAdds, HostTook, IsNoMessage, TookAfter}
 use Rattle.pl_engine.specs.Spelled.{host_spelling, is_success_word, request_of_word}
 use Rattle.pl_engine.specs.Journal.{end_event}
 use Rattle.pl_engine.specs.Heard.{EndHeard, IfEnded, IfFaulted}
@@ -150,3 +152,10 @@ pub within-heard : (body : List ℕ) (word : HostWord) (request : Request) (n : 
     → word_of body ≡ Some word → word ≡ Asks request → Register n told ≡ request → n ≤ 2 ^ 53
 within-heard body word request n told spells is parts =
     (word_number_in_range body n told (spells ∙ ap (λ (w : HostWord). Some w) (is ∙ ap (λ (r : Request). Asks r) (sym parts)))).1
+
+-- a registration that was heard is spelled by its body, and is no provider's
+pub spelled-heard : (body : List ℕ) (word : HostWord) (request : Request) (n : ℕ) (told : Registration) → IsBody body
+    → word_of body ≡ Some word → word ≡ Asks request → Register n told ≡ request → IsSpelled host_spelling (Register n told)
+spelled-heard body word request n told is_body spells is parts =
+    let asks : word_of body ≡ Some (Asks (Register n told)) = spells ∙ ap (λ (w : HostWord). Some w) (is ∙ ap (λ (r : Request). Asks r) (sym parts)) in
+    record { form = (body, is_body, request-word body (Register n told) asks); other = word_type_plain body n told asks }

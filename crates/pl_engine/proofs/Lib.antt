@@ -8,3 +8,4 @@ pub mod Hearing
 pub mod Ending
 pub mod Beginning
 pub mod Causing
+pub mod Promising

@@ -1,14 +1,15 @@
 -- What is due after a request is told, and what is left when it was worked on.
 use Rattle.std.proofs.Common.{◌≡◌, ℕ, Bool, true, false, ◌||◌, ◌&&◌, List, [], ◌∷◌, length, Option, Some, None, refl, arith, ◌==◌, nat_lt}
 use Rattle.std.proofs.lemmas.Bool.Decides.{nat_tests}
+use Rattle.pl_model.specs.Run.{most_resources}
 use Rattle.pl_state.specs.declared.goal.Goal.{Goal}
 use Rattle.pl_state.specs.declared.goal.Registration.{Registration}
 use Rattle.pl_events.specs.declared.event.Event.{Event}
-use Rattle.pl_model.specs.Run.{Fixed, most_resources}
-use Rattle.pl_model.specs.Problems.{has_problem}
-use Rattle.pl_model.specs.Requests.{Waiting, goal_at, goal_for, goals_of, waiting_of}
-use Rattle.pl_model.specs.Entries.{entry_if, entry_of, new_entries, unrecorded_of}
-use Rattle.pl_model.specs.Due.{NothingDue, is_post_due, is_ready, parent_stands, result_of}
+use Rattle.pl_components.specs.Run.{Fixed}
+use Rattle.pl_components.specs.Problems.{has_problem}
+use Rattle.pl_components.specs.Requests.{Waiting, goal_at, goal_for, goals_of, waiting_of}
+use Rattle.pl_components.specs.Entries.{entry_if, entry_of, new_entries, unrecorded_of}
+use Rattle.pl_components.specs.Due.{NothingDue, is_post_due, is_ready, parent_stands, result_of}
 use Rattle.pl_engine.specs.Journal.{told_event}
 
 -- a number is itself

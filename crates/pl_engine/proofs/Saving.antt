@@ -3,11 +3,12 @@ use Rattle.std.proofs.Common.{◌≡◌, ℕ, ◌+◌, ◌-◌, ◌≤◌, Bool,
 use Rattle.std.proofs.lemmas.Bool.Decides.{nat_tests}
 use Rattle.std.proofs.lemmas.List.Elements.{Contains-append_left}
 use Rattle.std.specs.List.{AllByRecursion}
+use Rattle.pl_model.specs.Run.{Spelling}
 use Rattle.pl_events.specs.declared.event.Event.{Event}
 use Rattle.pl_events.specs.declared.event.What.{What}
-use Rattle.pl_model.specs.Run.{Fixed, Spelling}
-use Rattle.pl_model.specs.Entries.{state_of}
-use Rattle.pl_model.specs.Saves.{AllMarked, HasMark, is_after_save, must_save, prefix_of, saves_of}
+use Rattle.pl_components.specs.Run.{Fixed}
+use Rattle.pl_components.specs.Entries.{state_of}
+use Rattle.pl_components.specs.Saves.{AllMarked, HasMark, is_after_save, must_save, prefix_of, saves_of}
 
 -- a mark is no longer than its history
 pub is_after_save-le : (history : List Event) (mark : ℕ) → is_after_save history mark ≡ true → mark ≤ length history

@@ -2,10 +2,11 @@
 use Rattle.std.proofs.Common.{◌≡◌, ℕ, ◌+◌, ◌<◌, ◌≤◌, Bool, true, false, ◌||◌, not, List, [], ◌∷◌, ◌++◌, length, All, Contains, Option, Some, None, option_map, refl, sym, ◌∙◌, ap, subst, inl, inr, arith, suc, append_assoc}
 use Rattle.std.proofs.lemmas.Grind.{common_steps}
 use Rattle.std.proofs.lemmas.Bool.Decides.{nat_tests}
-use Rattle.std.proofs.lemmas.List.{append-nil, map-append}
+use Rattle.std.proofs.lemmas.List.{map-append}
 use Rattle.std.proofs.lemmas.List.Elements.{All-push, Contains-push, recursion_from_All}
 use Rattle.std.proofs.lemmas.List.Quantifiers.{all_pairs_push}
 use Rattle.std.specs.List.{list_all}
+use Rattle.pl_model.specs.Run.{Spelling}
 use Rattle.pl_events.specs.Closing.{has_stop}
 use Rattle.pl_events.specs.declared.event.Event.{Event}
 use Rattle.pl_events.specs.declared.event.What.{What}
@@ -13,18 +14,17 @@ use Rattle.pl_events.specs.declared.event.What.TheVariants.{Kept, Stopped}
 use Rattle.pl_events.specs.declared.event.Stop.{Stop}
 use Rattle.pl_events.specs.declared.event.Stop.TheVariants.{StoreFault, NoMemory}
 use Rattle.pl_world.specs.Told.{Grew, IsKeptOrAdded}
-use Rattle.pl_model.specs.Run.{Fixed, Spelling}
+use Rattle.pl_components.specs.Run.{Fixed}
 use Rattle.pl_state.specs.declared.entry.Entry.{Entry}
-use Rattle.pl_state.specs.Component.{bare_entry, bare_state}
-use Rattle.pl_state.specs.declared.goal.Goal.{Goal}
-use Rattle.pl_model.specs.Requests.{goal_at, goals_of}
-use Rattle.pl_model.specs.Entries.{entries_after, entry_if, new_entries, state_of}
-use Rattle.pl_model.specs.Saves.{IsStory, is_after_save, must_save, prefix_of, saves_of}
+use Rattle.pl_state.specs.Component.{bare_state}
+use Rattle.pl_components.specs.Requests.{goals_of}
+use Rattle.pl_components.specs.Entries.{entries_after, new_entries, state_of}
+use Rattle.pl_components.specs.Saves.{IsStory, is_after_save, must_save, prefix_of, saves_of}
 use Rattle.pl_state.specs.declared.snapshot.Snapshot.{Snapshot}
 use Rattle.pl_world.specs.Counts.{Rose}
-use Rattle.pl_checkpoint.specs.Spelled.{IsBare, checkpoint_text}
+use Rattle.pl_checkpoint.specs.Spelled.{checkpoint_text}
 use Rattle.pl_engine.specs.Spelled.{host_spelling}
-use Rattle.pl_model.specs.Causes.{is_want_stop}
+use Rattle.pl_components.specs.Causes.{is_want_stop}
 use Rattle.pl_engine.specs.Answered.{Stops}
 use Rattle.pl_engine.specs.Journal.{Consistent, kept_event, run_of, stop_event, stopped_by}
 use Rattle.pl_engine.specs.Kept.{IfFault, IfWant}
@@ -324,26 +324,6 @@ Rose-later start before now h rose = omega arith
 -- the journal's state is that of its history
 pub state_is : (run : Fixed) (journal : Journal) → Consistent run journal → journal.state ≡ state_of run journal.history
 state_is run journal h = h.state
-
-abbrev IsBareEntry : Entry → Type 0
-IsBareEntry entry = entry ≡ bare_entry entry.urn entry.custom entry.kind entry.parent
-
--- the entries of goals are bare
-bare_after : (what : What) (goals : List Goal) (entries : List Entry) → All IsBareEntry entries → All IsBareEntry (entries_after what goals entries)
-bare_after (Kept goal _) goals entries h = kept (goal_at goals goal)
-  where
-    kept : (found : Option Goal) → All IsBareEntry (entries ++ entry_if found)
-    kept None = subst (λ (es : List Entry). All IsBareEntry es) (sym (append-nil entries)) h
-    kept (Some goal) = All-push IsBareEntry entries _ h refl
-bare_after _ goals entries h = h
-
-bare_entries : (run : Fixed) (history : List Event) → All IsBareEntry (new_entries run history)
-bare_entries run [] = λ k d below. absurd (omega arith)
-bare_entries run (event ∷ past) = bare_after event.what (goals_of run past) (new_entries run past) (bare_entries run past)
-
--- a journal's state can be spelled
-pub IsBare-state : (run : Fixed) (journal : Journal) → Consistent run journal → IsBare journal.state
-IsBare-state run journal h = subst IsBare (sym h.state) (record { entries = bare_entries run journal.history; others = refl })
 
 -- the checkpoint's text is how this engine spells a state
 pub state_text-host : (state : Snapshot) → host_spelling.state_text state ≡ checkpoint_text state

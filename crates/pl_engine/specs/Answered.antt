@@ -1,12 +1,13 @@
 -- What a post does to the history and to the writing half.
 use Rattle.std.specs.Prelude.{◌≡◌, ◌⊎◌, ℕ, Bool, true, false, All, IfSome, List, ◌∷◌, Option, None}
+use Rattle.pl_model.specs.Frames.{Causes}
 use Rattle.pl_state.specs.declared.goal.Goal.{Goal}
 use Rattle.pl_events.specs.declared.event.Event.{Event}
 use Rattle.pl_events.specs.declared.event.Stop.{Stop}
 use Rattle.pl_world.specs.Counts.{Rose}
 use Rattle.pl_world.specs.Told.{Piece, bytes_of}
-use Rattle.pl_model.specs.Run.{Fixed}
-use Rattle.pl_model.specs.HostLines.{Causes, HostGave, HostTook, answers_of}
+use Rattle.pl_components.specs.Run.{Fixed}
+use Rattle.pl_components.specs.HostLines.{HostGave, HostTook, answers_of}
 use Rattle.pl_engine.specs.Spelled.{host_spelling}
 use Rattle.pl_engine.specs.Journal.{posted_event, stop_event}
 use Rattle.pl_engine.specs.declared.journal.Journal.{Journal}

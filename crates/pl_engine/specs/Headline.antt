@@ -10,13 +10,13 @@ use Rattle.pl_events.specs.declared.event.Event.{Event}
 use Rattle.pl_world.specs.declared.trouble.Trouble.{Trouble}
 use Rattle.pl_world.specs.declared.trouble.Trouble.TheVariants as trouble
 use Rattle.pl_world.specs.Counts.{Rose}
-use Rattle.pl_model.specs.Run.{Fixed}
-use Rattle.pl_model.specs.Problems.{least_outcome}
-use Rattle.pl_model.specs.Requests.{waiting_of}
-use Rattle.pl_model.specs.Entries.{state_of}
-use Rattle.pl_model.specs.Due.{IsQuiet}
-use Rattle.pl_model.specs.Legal.{IsLegal}
-use Rattle.pl_model.specs.Fulfilment.{Fulfils}
+use Rattle.pl_components.specs.Run.{Fixed}
+use Rattle.pl_components.specs.Problems.{least_outcome}
+use Rattle.pl_components.specs.Requests.{waiting_of}
+use Rattle.pl_components.specs.Entries.{state_of}
+use Rattle.pl_components.specs.Due.{IsQuiet}
+use Rattle.pl_components.specs.Legal.{IsLegal}
+use Rattle.pl_components.specs.Fulfilment.{Fulfils}
 use Rattle.pl_engine.specs.Spelled.{host_spelling}
 use Rattle.pl_engine.specs.Stored.{IsComplete}
 

@@ -1,10 +1,10 @@
 -- What was heard of the host, and what was taken for it.
 use Rattle.std.specs.Prelude.{⊤, ◌≡◌, ◌⊎◌, ℕ, List, Some, None}
+use Rattle.pl_model.specs.Frames.{IsBadLength}
 use Rattle.pl_world.specs.Frames.{IsBody, frame_of, length_bytes, IsPartOfFrame, IsStartOfFrame}
 use Rattle.pl_events.specs.declared.event.HostEnd.{HostEnd}
 use Rattle.pl_events.specs.declared.event.HostEnd.TheVariants.{Success, Error, Ended, PipeFault, BadFrame, NoMemory}
 use Rattle.pl_host_msg.specs.Word.{word_of}
-use Rattle.pl_model.specs.HostLines.{IsBadLength}
 use Rattle.pl_engine.specs.declared.hear.Heard.{Heard}
 
 -- a message: its body's frame was taken, and the body spells it; P says that bytes were taken

@@ -8,12 +8,12 @@ use Rattle.pl_events.specs.declared.event.Request.TheVariants.{Register}
 use Rattle.pl_events.specs.declared.event.What.TheVariants.{Told, HostGone, Kept, Posted, Stopped}
 use Rattle.pl_state.specs.declared.goal.Registration.{Registration}
 use Rattle.pl_state.specs.Component.{bare_state}
-use Rattle.pl_model.specs.Run.{Fixed}
-use Rattle.pl_model.specs.Causes.{has_want}
-use Rattle.pl_model.specs.Problems.{has_problem, least_outcome}
-use Rattle.pl_model.specs.Requests.{last_number}
-use Rattle.pl_model.specs.Entries.{new_entries}
-use Rattle.pl_model.specs.Legal.{IsLegal}
+use Rattle.pl_components.specs.Run.{Fixed}
+use Rattle.pl_components.specs.Causes.{has_want}
+use Rattle.pl_components.specs.Problems.{has_problem, least_outcome}
+use Rattle.pl_components.specs.Requests.{last_number}
+use Rattle.pl_components.specs.Entries.{new_entries}
+use Rattle.pl_components.specs.Legal.{IsLegal}
 use Rattle.pl_engine.specs.Spelled.{host_spelling}
 use Rattle.pl_engine.specs.declared.journal.Journal.{Journal}
 

@@ -7,10 +7,10 @@ use Rattle.pl_state.specs.declared.goal.Goal.{Goal}
 use Rattle.pl_state.specs.Component.{is_plain}
 use Rattle.pl_state.specs.declared.goal.Registration.{Registration}
 use Rattle.std.specs.Prelude.{ℕ}
-use Rattle.pl_model.specs.Run.{Fixed}
-use Rattle.pl_model.specs.Requests.{goal_for}
-use Rattle.pl_model.specs.Entries.{entry_of, has_entry}
-use Rattle.pl_model.specs.Due.{parent_stands}
+use Rattle.pl_components.specs.Run.{Fixed}
+use Rattle.pl_components.specs.Requests.{goal_for}
+use Rattle.pl_components.specs.Entries.{entry_of, has_entry}
+use Rattle.pl_components.specs.Due.{parent_stands}
 use Rattle.pl_engine.specs.declared.judge.Placed.{Placed}
 
 -- the run whose state and project these are

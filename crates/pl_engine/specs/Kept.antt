@@ -4,7 +4,7 @@ use Rattle.pl_events.specs.declared.event.Event.{Event}
 use Rattle.pl_events.specs.declared.event.Stop.{Stop}
 use Rattle.pl_events.specs.declared.event.Stop.TheVariants.{StoreFault, NoMemory}
 use Rattle.pl_world.specs.Counts.{Rose}
-use Rattle.pl_model.specs.Run.{Fixed}
+use Rattle.pl_components.specs.Run.{Fixed}
 use Rattle.pl_engine.specs.Spelled.{host_spelling}
 use Rattle.pl_engine.specs.Journal.{kept_event, stop_event}
 use Rattle.pl_engine.specs.Stored.{Stored}

@@ -8,3 +8,4 @@ pub mod Heard
 pub mod Running
 pub mod Headline
 pub mod Caused
+pub mod Promise

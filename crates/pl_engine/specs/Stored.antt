@@ -1,13 +1,14 @@
 -- How the store and the marks stand to the history while a run goes on.
 use Rattle.std.specs.Prelude.{◌≡◌, ◌⊎◌, ◌<◌, ℕ, Bool, true, false, All, AllPairs, Option, None, List, [], ◌∷◌, ◌++◌}
 use Rattle.std.specs.List.{list_all}
+use Rattle.pl_model.specs.Run.{Spelling}
 use Rattle.pl_events.specs.Closing.{has_stop}
 use Rattle.pl_events.specs.declared.event.Event.{Event}
 use Rattle.pl_events.specs.declared.event.What.{What}
 use Rattle.pl_world.specs.Told.{Grew}
-use Rattle.pl_model.specs.Run.{Fixed, Spelling}
-use Rattle.pl_model.specs.Entries.{new_entries, state_of}
-use Rattle.pl_model.specs.Saves.{AllMarked, IsSaved, IsStory, is_after_save, saves_of}
+use Rattle.pl_components.specs.Run.{Fixed}
+use Rattle.pl_components.specs.Entries.{new_entries, state_of}
+use Rattle.pl_components.specs.Saves.{AllMarked, IsSaved, IsStory, is_after_save, saves_of}
 
 -- the last save is that of the present state; there is none only where nothing is recorded
 abbrev pub IsPresent : Fixed → Spelling → List Event → List ℕ → Type 0

@@ -1,9 +1,9 @@
+ghost use Rattle.pl_model.specs.Frames.{IsBadLength};
 ghost use Rattle.std.specs.Prelude.{◌≡◌, ◌≤◌, ◌<◌, ◌^◌, ◌⊎◌, Some, None, IfErr, IfOk, OnOk};
 ghost use Rattle.pl_world.specs.Counts.{Rose};
 ghost use Rattle.pl_world.specs.Frames.{IsBody, frame_of, length_bytes};
 ghost use Rattle.pl_world.specs.Told.{Grew};
 ghost use Rattle.pl_host_msg.specs.Word.{word_of};
-ghost use Rattle.pl_model.specs.HostLines.{IsBadLength};
 ghost use Rattle.pl_engine.specs.Heard.{EndHeard, IfEnded, IfFaulted, IsHeard, IsLengthEnd, IsUnread};
 
 use pl_events::HostEnd;

@@ -1,14 +1,15 @@
+ghost use Rattle.pl_model.specs.Problems.{problem_of_end, problem_of_stop};
 ghost use Rattle.std.specs.Prelude.{◌≡◌, ◌+◌, ◌++◌, ◌≤◌, ◌^◌, [], ◌∷◌, true, false, ◌||◌, Some, None, is_some, length, IfErr, OnErr, OnOk};
 ghost use Rattle.pl_engine.specs.Spelled.{host_spelling};
 ghost use Rattle.pl_engine.specs.Journal.{Consistent, end_event, kept_event, posted_event, run_of, stopped_by, told_event};
 ghost use Rattle.pl_events.specs.Closing.{has_host_end};
-ghost use Rattle.pl_model.specs.Requests.{goal_at, goals_of, may_be_next};
+ghost use Rattle.pl_components.specs.Requests.{goal_at, goals_of, may_be_next};
 ghost use Rattle.pl_state.specs.Component.{bare_state};
-ghost use Rattle.pl_model.specs.Entries.{entry_if};
-ghost use Rattle.pl_model.specs.Due.{is_keep_due, is_post_due};
-ghost use Rattle.pl_model.specs.Legal.{StopFits};
-ghost use Rattle.pl_model.specs.Causes.{is_want_end, is_want_stop};
-ghost use Rattle.pl_model.specs.Problems.{first_of, outcome_of_problem, outcome_of_event, problem_of_end, problem_of_stop};
+ghost use Rattle.pl_components.specs.Entries.{entry_if};
+ghost use Rattle.pl_components.specs.Due.{is_keep_due, is_post_due};
+ghost use Rattle.pl_components.specs.Legal.{IsSpelled, StopFits};
+ghost use Rattle.pl_components.specs.Causes.{is_want_end, is_want_stop};
+ghost use Rattle.pl_components.specs.Problems.{first_of, outcome_of_problem, outcome_of_event};
 
 use pl_decide::{Child, Outcome, Problem};
 use pl_events::{Event, History, HostEnd, Request, Stop, What};
@@ -155,6 +156,7 @@ impl Journal {
         requires consistent { Consistent (run_of self.old) self.old }
         requires host_open { has_host_end self.old.history ≡ false }
         requires within { n ≤ 2 ^ 53 }
+        requires spelled { IsSpelled host_spelling (Request.Register n told) }
         requires next { may_be_next (run_of self.old) self.old.history (Request.Register n told) ≡ true }
         ensures consistent { Consistent (run_of self.old) self.new }
         ensures told { OnOk result (self.new.history ≡ told_event n told ∷ self.old.history) }

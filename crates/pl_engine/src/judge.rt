@@ -2,8 +2,8 @@ ghost use Rattle.std.specs.Prelude.{◌≡◌, ◌<◌, ◌&&◌, ◌||◌, fals
 ghost use Rattle.std.specs.Option.{option_copied};
 ghost use Rattle.pl_urn.specs.Grammar.{child_fault, child_text, IsScope};
 ghost use Rattle.pl_state.specs.Component.{component_entry};
-ghost use Rattle.pl_model.specs.Requests.{goal_for};
-ghost use Rattle.pl_model.specs.Due.{parent_stands};
+ghost use Rattle.pl_components.specs.Requests.{goal_for};
+ghost use Rattle.pl_components.specs.Due.{parent_stands};
 ghost use Rattle.pl_engine.specs.Judged.{is_placeable, IsPlacedFor, state_run};
 
 use pl_state::{Entries, Entry, Registration, Snapshot};

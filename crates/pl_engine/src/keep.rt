@@ -2,9 +2,9 @@ ghost use Rattle.std.specs.Prelude.{◌≡◌, ◌≤◌, ◌++◌, [], ◌∷�
 ghost use Rattle.pl_checkpoint.specs.Spelled.{checkpoint_text};
 ghost use Rattle.pl_world.specs.Counts.{Rose};
 ghost use Rattle.pl_world.specs.Told.{Grew, IsKeptOrAdded};
-ghost use Rattle.pl_model.specs.Requests.{goal_at, goals_of};
-ghost use Rattle.pl_model.specs.Entries.{entry_if};
-ghost use Rattle.pl_model.specs.Due.{is_keep_due};
+ghost use Rattle.pl_components.specs.Requests.{goal_at, goals_of};
+ghost use Rattle.pl_components.specs.Entries.{entry_if};
+ghost use Rattle.pl_components.specs.Due.{is_keep_due};
 ghost use Rattle.pl_engine.specs.Spelled.{host_spelling};
 ghost use Rattle.pl_engine.specs.Journal.{Consistent, run_of};
 ghost use Rattle.pl_engine.specs.Caused.{SameAnswerFaults, StoreCaused};

@@ -4,7 +4,7 @@ ghost use Rattle.pl_world.specs.Counts.{Rose};
 ghost use Rattle.pl_world.specs.Frames.{IsBody, frame_of};
 ghost use Rattle.pl_world.specs.Told.{Gave, GavePart};
 ghost use Rattle.pl_host_msg.specs.Answer.{answer_text, IfTooLong, longest_body};
-ghost use Rattle.pl_model.specs.Due.{answer_of, is_post_due, result_of};
+ghost use Rattle.pl_components.specs.Due.{answer_of, is_post_due, result_of};
 ghost use Rattle.pl_engine.specs.Spelled.{host_spelling};
 ghost use Rattle.pl_engine.specs.Journal.{Consistent, run_of};
 ghost use Rattle.pl_engine.specs.Caused.{AnswersCaused, SameAnswerFaults, SameStoreFaults};

@@ -1,19 +1,22 @@
+ghost use Rattle.pl_model.specs.Problems.{problem_of_end};
 ghost use Rattle.std.specs.Prelude.{◌≡◌, ◌≤◌, ◌<◌, ◌^◌, ◌∷◌, true, false, not, ℕ, None, Some, IfOk, IfSome, length, nat_lt, []};
 ghost use Rattle.pl_state.specs.declared.goal.Registration.{Registration};
-ghost use Rattle.pl_model.specs.Requests.{goal_at, goal_for, goals_of, is_registration};
-ghost use Rattle.pl_model.specs.Entries.{entry_if};
-ghost use Rattle.pl_model.specs.Due.{has_room, is_ready, NothingDue};
+ghost use Rattle.pl_components.specs.Requests.{goal_at, goal_for, goals_of, is_registration};
+ghost use Rattle.pl_components.specs.Entries.{entry_if};
+ghost use Rattle.pl_components.specs.Legal.{IsSpelled};
+ghost use Rattle.pl_engine.specs.Spelled.{host_spelling};
+ghost use Rattle.pl_components.specs.Due.{has_room, is_ready, NothingDue};
 ghost use Rattle.pl_engine.specs.Journal.{Consistent, run_of};
 ghost use Rattle.pl_engine.specs.Judged.{is_placeable, IsPlacedFor};
 ghost use Rattle.pl_engine.specs.Caused.{AnswersCaused, EndCaused, SameAnswerFaults, SameStoreFaults, StoreCaused};
 ghost use Rattle.pl_engine.specs.Kept.{KeepsStored};
 ghost use Rattle.pl_engine.specs.Answered.{KeepsWritten};
-ghost use Rattle.pl_model.specs.Saves.{must_save};
+ghost use Rattle.pl_components.specs.Saves.{must_save};
 ghost use Rattle.pl_engine.specs.Stored.{Adds};
 ghost use Rattle.pl_engine.specs.Running.{AtRest, EndedBy, Goes, KeepsTaken, Over, RecordedAs, Registered, Stands};
 ghost use Rattle.pl_urn.specs.Grammar.{IsScope};
 ghost use Rattle.pl_events.specs.Closing.{has_host_end};
-ghost use Rattle.pl_model.specs.Problems.{outcome_of_event, problem_of_end};
+ghost use Rattle.pl_components.specs.Problems.{outcome_of_event};
 
 use crate::hear::{Heard, hear};
 use crate::journal::Journal;
@@ -44,6 +47,7 @@ fn halt<Q: Pipe>(
     requires rest { AtRest (run_of journal.old) journal.old writing.old.failed }
     requires halted { journal.old.halted ≡ true }
     requires within { n ≤ 2 ^ 53 }
+    requires spelled { IsSpelled host_spelling (Request.Register n told) }
     requires above { journal.old.last < n }
     ensures goes { Goes result n told (run_of journal.old) journal.old journal.new writing.new.failed }
     ensures marks { journal.new.marks.items ≡ journal.old.marks.items }
@@ -83,6 +87,7 @@ fn accept<S: Store, Q: Pipe>(
     requires rest { AtRest (run_of journal.old) journal.old writing.old.failed }
     requires free { journal.old.halted ≡ false }
     requires within { n ≤ 2 ^ 53 }
+    requires spelled { IsSpelled host_spelling (Request.Register n told) }
     requires above { journal.old.last < n }
     requires placeable { is_placeable (run_of journal.old) journal.old.state.entries told ≡ true }
     requires placed { IsPlacedFor (goal_for (run_of journal.old) told) placed }
@@ -199,6 +204,7 @@ fn register<S: Store, Q: Pipe>(
     requires stack { IsScope journal.old.state.stack }
     requires project { IsScope journal.old.project }
     requires within { n ≤ 2 ^ 53 }
+    requires spelled { IsSpelled host_spelling (Request.Register n told) }
     ensures did { Registered result (Request.Register n told) body (run_of journal.old) journal.old journal.new writing.new.failed }
     ensures faults_never_fall { S.faults store.old ≤ S.faults store.new }
     ensures half_faults_never_fall { Q.faults writing.old.half ≤ Q.faults writing.new.half }
@@ -255,6 +261,7 @@ fn take_up<S: Store, Q: Pipe>(
     requires stack { IsScope journal.old.state.stack }
     requires project { IsScope journal.old.project }
     requires within { (n : ℕ) (told : Registration) → Request.Register n told ≡ request → n ≤ 2 ^ 53 }
+    requires spelled { (n : ℕ) (told : Registration) → Request.Register n told ≡ request → IsSpelled host_spelling (Request.Register n told) }
     ensures did { Registered result request body (run_of journal.old) journal.old journal.new writing.new.failed }
     ensures faults_never_fall { S.faults store.old ≤ S.faults store.new }
     ensures half_faults_never_fall { Q.faults writing.old.half ≤ Q.faults writing.new.half }

@@ -3,12 +3,13 @@ ghost use Rattle.pl_urn.specs.Grammar.{IsScope};
 ghost use Rattle.pl_state.specs.Component.{bare_state};
 ghost use Rattle.pl_world.specs.Counts.{Rose};
 ghost use Rattle.pl_world.specs.Told.{IsFresh};
-ghost use Rattle.pl_model.specs.Causes.{HasCauses};
-ghost use Rattle.pl_model.specs.HostLines.{HostLines};
+ghost use Rattle.pl_components.specs.Causes.{HasCauses};
+ghost use Rattle.pl_components.specs.HostLines.{HostLines};
 ghost use Rattle.pl_cli.specs.Reading.{host_words};
-ghost use Rattle.pl_model.specs.Run.{Fixed};
+ghost use Rattle.pl_components.specs.Run.{Fixed};
 ghost use Rattle.pl_engine.specs.Spelled.{host_spelling};
 ghost use Rattle.pl_engine.specs.Stored.{IsKeptUp};
+ghost use Rattle.pl_engine.specs.Promise as promise;
 ghost use Rattle.pl_engine.specs.Headline.{IsEarly, IsFinal, IsLegalRun, IsOutcome, IsRefused, IsRunOf, IsUnread, IsUntouched, command_words, start_outcome_of, status_code};
 
 use crate::journal::Journal;
@@ -317,8 +318,16 @@ fn start_outcome(trouble: Trouble) -> Outcome
     }
 }
 
-/// Runs `up` over a store that has no content yet.
-fn up<R: Wait, S: Store, B: Drop, P: Spawner<Cover = S::Cover>, W: Drop, I: Drop, G: Drop>(
+/// Runs `up` over a store that has no content yet, and says what it did over the definitions of components.
+fn up_by_components<
+    R: Wait,
+    S: Store,
+    B: Drop,
+    P: Spawner<Cover = S::Cover>,
+    W: Drop,
+    I: Drop,
+    G: Drop,
+>(
     rt: &R,
     alloc: Global,
     run: RunWords,
@@ -382,6 +391,46 @@ fn up<R: Wait, S: Store, B: Drop, P: Spawner<Cover = S::Cover>, W: Drop, I: Drop
     }
 }
 
+/// Runs `up` over a store that has no content yet, and says what it did over the definitions of a history.
+fn up<R: Wait, S: Store, B: Drop, P: Spawner<Cover = S::Cover>, W: Drop, I: Drop, G: Drop>(
+    rt: &R,
+    alloc: Global,
+    run: RunWords,
+    world: World<S, B, P, W, I, G>,
+) -> Finished<S, B, P, W, I, G>
+    requires stack { IsScope run.stack }
+    requires project { IsScope run.project }
+    ensures fresh { IfSome result.run.host (λ _. IfSome (S.story world.store) (λ texts. texts ≡ [])) }
+    ensures legal { MatchOption result.run.host (result.run.history.items ≡ []) (λ used.
+        promise.IsHistory (record { stack = run.stack; project = run.project }) (reverse result.run.history.items) (P.Pipe.faults used.1) result.run.wanted) }
+    ensures saved { MatchOption result.run.host (IsUntouched result.run.marks.items (S.story world.store) (S.story result.world.store)) (λ _.
+        promise.IsKept (record { stack = run.stack; project = run.project }) (Rose (S.faults world.store) (S.faults result.world.store))
+        result.run.wanted (reverse result.run.history.items) result.run.marks.items (S.story world.store) (S.story result.world.store)) }
+    ensures host_lines { IfSome result.run.host (λ used.
+        promise.HostLines (record { stack = run.stack; project = run.project })
+        (record { faults = P.Pipe.faults used.0; ends = P.Pipe.ends used.0; wanted = result.run.wanted })
+        (record { faults = P.Pipe.faults used.1; ends = 0; wanted = result.run.wanted })
+        (reverse result.run.history.items) (P.Pipe.taken used.0) (P.Pipe.given used.1)) }
+    ensures causes { IfSome result.run.host (λ used. HasCauses
+        (record {
+          store_before = S.faults world.store;
+          store_now = S.faults result.world.store;
+          reading = P.Pipe.faults used.0;
+          ends = P.Pipe.ends used.0;
+          writing = P.Pipe.faults used.1;
+          wanted = result.run.wanted;
+        }) (reverse result.run.history.items)) }
+    ensures started { MatchOption result.run.host (P.started result.world.spawner ≡ P.started world.spawner) (λ _.
+        P.started result.world.spawner ≡ P.started world.spawner ++ command_words run.host run.stack run.project ∷ []) }
+    ensures outcome { MatchOption result.run.host
+        (IsEarly (S.story world.store) (Rose (S.faults world.store) (S.faults result.world.store)) (Rose (P.faults world.spawner) (P.faults result.world.spawner)) result.outcome)
+        (λ _. promise.IsOutcome (record { stack = run.stack; project = run.project }) (reverse result.run.history.items) result.run.marks.items
+        result.run.wanted result.outcome (S.story world.store) (S.story result.world.store)) }
+    ensures status { result.status ≡ status_code result.outcome }
+{
+    up_by_components(rt, alloc, run, world)
+}
+
 /// Reads a store that is to have no content.
 fn read_nothing<S: Store>(alloc: Global, store: &mut S) -> Result<(), Outcome>
     ensures empty { OnOk result (IfSome (S.story store.new) (λ texts. texts ≡ [])) }
@@ -424,12 +473,12 @@ pub fn engine<
 ) -> Finished<S, B, P, W, I, G>
     ensures fresh { IfSome result.run.host (λ _. IfSome (S.story world.store) (λ texts. texts ≡ [])) }
     ensures legal { MatchOption result.run.host (result.run.history.items ≡ []) (λ used.
-        (run : Fixed) × IsRunOf (map string_bytes words.now) run × (IsLegalRun run (reverse result.run.history.items) (P.Pipe.faults used.1) result.run.wanted)) }
+        (run : Fixed) × IsRunOf (map string_bytes words.now) run × (promise.IsHistory run (reverse result.run.history.items) (P.Pipe.faults used.1) result.run.wanted)) }
     ensures saved { MatchOption result.run.host (IsUntouched result.run.marks.items (S.story world.store) (S.story result.world.store)) (λ _.
-        (run : Fixed) × IsRunOf (map string_bytes words.now) run × (IsKeptUp run host_spelling (Rose (S.faults world.store) (S.faults result.world.store))
+        (run : Fixed) × IsRunOf (map string_bytes words.now) run × (promise.IsKept run (Rose (S.faults world.store) (S.faults result.world.store))
         result.run.wanted (reverse result.run.history.items) result.run.marks.items (S.story world.store) (S.story result.world.store))) }
     ensures host_lines { IfSome result.run.host (λ used.
-        (run : Fixed) × IsRunOf (map string_bytes words.now) run × (HostLines run host_spelling
+        (run : Fixed) × IsRunOf (map string_bytes words.now) run × (promise.HostLines run
         (record { faults = P.Pipe.faults used.0; ends = P.Pipe.ends used.0; wanted = result.run.wanted })
         (record { faults = P.Pipe.faults used.1; ends = 0; wanted = result.run.wanted })
         (reverse result.run.history.items) (P.Pipe.taken used.0) (P.Pipe.given used.1))) }
@@ -446,7 +495,7 @@ pub fn engine<
         (run : Fixed) × IsRunOf (map string_bytes words.now) run × (P.started result.world.spawner ≡ P.started world.spawner ++ command_words (host_words (map string_bytes words.now)) run.stack run.project ∷ [])) }
     ensures outcome { MatchOption result.run.host
         (IsRefused (map string_bytes words.now) (S.story world.store) (Rose (S.faults world.store) (S.faults result.world.store)) (Rose (P.faults world.spawner) (P.faults result.world.spawner)) result.outcome)
-        (λ _. (run : Fixed) × IsRunOf (map string_bytes words.now) run × (IsOutcome run (reverse result.run.history.items) result.run.marks.items
+        (λ _. (run : Fixed) × IsRunOf (map string_bytes words.now) run × (promise.IsOutcome run (reverse result.run.history.items) result.run.marks.items
         result.run.wanted result.outcome (S.story world.store) (S.story result.world.store))) }
     ensures status { result.status ≡ status_code result.outcome }
 {

@@ -1,6 +1,6 @@
 use Rattle.std.proofs.Common.{ℕ, List, Option, Some, ap, sym, ◌∙◌}
-use Rattle.pl_model.specs.Entries.{has_entry}
-use Rattle.pl_model.specs.Due.{parent_stands}
+use Rattle.pl_components.specs.Entries.{has_entry}
+use Rattle.pl_components.specs.Due.{parent_stands}
 use Rattle.pl_engine.proofs.Finding.{found_urn, found_stands, missed}
 use Rattle.pl_engine.proofs.judge.parent_of.Goals as goal
 

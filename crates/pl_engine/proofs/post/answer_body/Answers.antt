@@ -1,11 +1,11 @@
 use Rattle.std.proofs.Common.{◌≤◌, ℕ, None, [], List, sym, ◌∙◌, ap, subst}
+use Rattle.pl_model.specs.Run.{longest_body}
 use Rattle.pl_events.specs.declared.event.Answer.{Answer}
 use Rattle.pl_events.specs.declared.event.Answer.TheVariants.{Registered}
 use Rattle.pl_events.specs.declared.event.Stop.TheVariants.{MessageTooLong}
 use Rattle.pl_host_msg.specs.Answer.{answer_text}
-use Rattle.pl_model.specs.Run.{longest_body}
 use Rattle.std.proofs.Common.{length}
-use Rattle.pl_model.specs.Due.{halted}
+use Rattle.pl_events.specs.Halted.{halted}
 use Rattle.pl_engine.specs.Journal.{run_of}
 use Rattle.pl_engine.proofs.Answering.{IsBody-answer, IsBody-if, answer_of-fits, answer_of-stopped, over_limit, text-if, too_long-result}
 use Rattle.pl_engine.proofs.post.answer_body.Goals as goal

@@ -1,5 +1,5 @@
 use Rattle.std.proofs.Common.{◌∙◌, subst, arith}
-use Rattle.pl_model.specs.Run.{Fixed}
+use Rattle.pl_components.specs.Run.{Fixed}
 use Rattle.pl_engine.specs.Journal.{run_of}
 use Rattle.pl_engine.specs.Answered.{KeepsWritten}
 use Rattle.pl_engine.proofs.Answering.{Adds-stops, Written-step}

@@ -3,10 +3,10 @@ use Rattle.pl_events.specs.declared.event.Event.{Event}
 use Rattle.pl_events.specs.declared.event.HostEnd.TheVariants.{NoMemory}
 use Rattle.pl_state.specs.declared.entry.Entry.{Entry}
 use Rattle.pl_world.specs.Counts.{Rose}
-use Rattle.pl_model.specs.Run.{Fixed}
-use Rattle.pl_model.specs.Requests.{goal_at, goals_of}
-use Rattle.pl_model.specs.Entries.{entry_if, new_entries}
-use Rattle.pl_model.specs.Due.{NothingDue, has_room, is_post_due, is_ready, result_of}
+use Rattle.pl_components.specs.Run.{Fixed}
+use Rattle.pl_components.specs.Requests.{goal_at, goals_of}
+use Rattle.pl_components.specs.Entries.{entry_if, new_entries}
+use Rattle.pl_components.specs.Due.{NothingDue, has_room, is_post_due, is_ready, result_of}
 use Rattle.pl_engine.specs.Spelled.{host_spelling}
 use Rattle.pl_engine.specs.Journal.{Consistent, end_event, run_of, told_event}
 use Rattle.pl_engine.specs.Kept.{KeepsStored}

@@ -1,7 +1,7 @@
 use Rattle.std.proofs.Common.{[], ◌∷◌, List, None, true, refl, sym, ◌∙◌, ap, subst, arith}
 use Rattle.pl_events.specs.declared.event.Event.{Event}
 use Rattle.pl_events.specs.declared.event.HostEnd.TheVariants.{NoMemory}
-use Rattle.pl_model.specs.Run.{Fixed}
+use Rattle.pl_components.specs.Run.{Fixed}
 use Rattle.pl_engine.specs.Journal.{Consistent, end_event, run_of, told_event}
 use Rattle.pl_engine.specs.Answered.{Answers, KeepsWritten}
 use Rattle.pl_engine.specs.declared.journal.Journal.{Journal}

@@ -1,7 +1,7 @@
 use Rattle.std.proofs.Common.{not, refl, ap, arith, Err}
 use Rattle.pl_events.specs.declared.event.HostEnd.TheVariants.{BadFrame, NoMemory}
 use Rattle.pl_events.specs.declared.event.Request.TheVariants.{Register}
-use Rattle.pl_model.specs.Saves.{must_save}
+use Rattle.pl_components.specs.Saves.{must_save}
 use Rattle.pl_engine.specs.Spelled.{host_spelling}
 use Rattle.pl_engine.specs.Journal.{run_of}
 use Rattle.pl_engine.proofs.Accepting.{Adds-ended, Registered-goes, Registered-refused, not_next-placeable}

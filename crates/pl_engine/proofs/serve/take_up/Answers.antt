@@ -1,6 +1,6 @@
 use Rattle.std.proofs.Common.{not, refl, arith}
 use Rattle.pl_events.specs.declared.event.HostEnd.TheVariants.{BadFrame}
-use Rattle.pl_model.specs.Saves.{must_save}
+use Rattle.pl_components.specs.Saves.{must_save}
 use Rattle.pl_engine.specs.Spelled.{host_spelling}
 use Rattle.pl_engine.specs.Journal.{run_of}
 use Rattle.pl_engine.proofs.Accepting.{Adds-ended}

@@ -2,8 +2,8 @@ use Rattle.std.proofs.Common.{◌≡◌, ℕ, List, Bool, reverse, IfSome, sym, 
 use Rattle.pl_state.specs.declared.snapshot.Snapshot.{Snapshot}
 use Rattle.pl_events.specs.declared.event.Event.{Event}
 use Rattle.pl_world.specs.Counts.{Rose}
-use Rattle.pl_model.specs.Run.{Fixed}
-use Rattle.pl_model.specs.HostLines.{HostLines}
+use Rattle.pl_components.specs.Run.{Fixed}
+use Rattle.pl_components.specs.HostLines.{HostLines}
 use Rattle.pl_engine.specs.Spelled.{host_spelling}
 use Rattle.pl_engine.specs.Journal.{run_of}
 use Rattle.pl_engine.specs.Stored.{IsKeptUp}

@@ -1,11 +1,37 @@
-use Rattle.std.proofs.Common.{reverse}
-use Rattle.pl_engine.proofs.Beginning.{saved-earlier}
+use Rattle.std.proofs.Common.{◌≡◌, [], reverse}
+use Rattle.pl_world.specs.Counts.{Rose}
+use Rattle.pl_engine.specs.Headline.{IsEarly, IsUntouched}
+use Rattle.pl_engine.proofs.Promising.{legal-promised, lines-promised, outcome-promised, saved-promised}
 use Rattle.pl_engine.proofs.top.up.Goals as goal
 
-pub returns-in-Ok-clause-saved : goal.returns-in-Ok-clause-saved
-returns-in-Ok-clause-saved g c =
-    saved-earlier c.start.result.run.host (record { stack = c.args.run.stack; project = c.args.run.project })
-    (g.S.Store.faults c.args.world.store) (g.S.Store.faults c.read_nothing-content.new.store) (g.S.Store.faults c.start.result.world.store)
-    c.start.result.run.wanted (reverse c.start.result.run.history.items) c.start.result.run.marks.items
-    (g.S.Store.story c.args.world.store) (g.S.Store.story c.read_nothing-content.new.store) (g.S.Store.story c.start.result.world.store)
-    c.read_nothing-content.ensures.faults_never_fall c.read_nothing-content.ensures.story c.start.ensures.saved
+pub returns-clause-legal : goal.returns-clause-legal
+returns-clause-legal g c =
+    legal-promised (record { stack = c.args.run.stack; project = c.args.run.project }) c.requires.stack c.requires.project
+    (reverse c.up_by_components.result.run.history.items) _ c.up_by_components.result.run.wanted
+    c.up_by_components.result.run.host (c.up_by_components.result.run.history.items ≡ []) c.up_by_components.ensures.legal
+
+pub returns-clause-saved : goal.returns-clause-saved
+returns-clause-saved g c =
+    saved-promised (record { stack = c.args.run.stack; project = c.args.run.project }) c.requires.stack c.requires.project
+    (reverse c.up_by_components.result.run.history.items) _ c.up_by_components.result.run.wanted
+    c.up_by_components.result.run.host (c.up_by_components.result.run.history.items ≡ [])
+    (IsUntouched c.up_by_components.result.run.marks.items (g.S.Store.story c.args.world.store) (g.S.Store.story c.up_by_components.result.world.store))
+    (Rose (g.S.Store.faults c.args.world.store) (g.S.Store.faults c.up_by_components.result.world.store))
+    c.up_by_components.result.run.marks.items (g.S.Store.story c.args.world.store) (g.S.Store.story c.up_by_components.result.world.store)
+    c.up_by_components.ensures.legal c.up_by_components.ensures.saved
+
+pub returns-clause-host_lines : goal.returns-clause-host_lines
+returns-clause-host_lines g c =
+    lines-promised (record { stack = c.args.run.stack; project = c.args.run.project }) c.requires.stack c.requires.project
+    (reverse c.up_by_components.result.run.history.items) _ c.up_by_components.result.run.wanted
+    c.up_by_components.result.run.host (c.up_by_components.result.run.history.items ≡ []) _ _ _ _
+    c.up_by_components.ensures.legal c.up_by_components.ensures.host_lines
+
+pub returns-clause-outcome : goal.returns-clause-outcome
+returns-clause-outcome g c =
+    outcome-promised (record { stack = c.args.run.stack; project = c.args.run.project }) c.requires.stack c.requires.project
+    (reverse c.up_by_components.result.run.history.items) _ c.up_by_components.result.run.wanted
+    c.up_by_components.result.run.host (c.up_by_components.result.run.history.items ≡ []) _
+    c.up_by_components.result.run.marks.items c.up_by_components.result.outcome
+    (g.S.Store.story c.args.world.store) (g.S.Store.story c.up_by_components.result.world.store)
+    c.up_by_components.ensures.legal c.up_by_components.ensures.outcome

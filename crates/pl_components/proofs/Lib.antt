@@ -1,0 +1,12 @@
+pub mod Lists
+pub mod Goals
+pub mod Knowing
+pub mod Outcomes
+pub mod Recorded
+pub mod States
+pub mod Waits
+pub mod Keeps
+pub mod Works
+pub mod Legality
+pub mod Lines
+pub mod Saving

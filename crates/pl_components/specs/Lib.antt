@@ -1,0 +1,12 @@
+pub mod Run
+pub mod Problems
+pub mod Requests
+pub mod Entries
+pub mod Due
+pub mod Legal
+pub mod Saves
+pub mod HostLines
+pub mod Causes
+pub mod Fulfilment
+pub mod Whole
+pub mod Laws
