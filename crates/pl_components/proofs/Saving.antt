@@ -18,7 +18,7 @@ use Rattle.pl_components.specs.Requests.{is_waiting, may_stand, waiting_of, Wait
 use Rattle.pl_components.specs.Entries.{state_of}
 use Rattle.pl_components.specs.Legal.{MayHappen}
 use Rattle.pl_components.specs.Saves.{AllMarked, IsSaved, IsStory, LacksForFault, LacksForMemory, is_after_save, must_save, prefix_of, saves_of}
-use Rattle.pl_components.specs.Laws.{AllAnswered}
+use Rattle.pl_model.specs.Posts.{AllAnswered}
 use Rattle.pl_components.specs.Whole.{IsComponentRun, whole}
 use Rattle.pl_components.proofs.Knowing.{before_run, known_as, known_is, may_stand-next}
 use Rattle.pl_components.proofs.Lines.{earlier_run}

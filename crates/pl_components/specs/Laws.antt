@@ -1,9 +1,7 @@
 -- That the definitions of components come to the whole ones, for the histories of component runs.
-use Rattle.std.specs.Prelude.{◌≡◌, ℕ, Bool, true, Option, None, is_some, List, [], option_and_then}
+use Rattle.std.specs.Prelude.{◌≡◌, ℕ, Bool, Option, None, List, []}
 use Rattle.pl_world.specs.Counts.{Rose}
 use Rattle.pl_world.specs.Told.{Piece}
-use Rattle.pl_decide.specs.declared.outcome.Outcome.{Outcome}
-use Rattle.pl_decide.specs.declared.problem.Problem.{Problem}
 use Rattle.pl_events.specs.declared.event.Event.{Event}
 use Rattle.pl_model.specs.Run as model
 use Rattle.pl_model.specs.Due as model_due
@@ -11,13 +9,13 @@ use Rattle.pl_model.specs.Fulfilment as model_fulfilment
 use Rattle.pl_model.specs.Frames.{Causes}
 use Rattle.pl_model.specs.HostLines as model_lines
 use Rattle.pl_model.specs.History.{known_of, problem_of}
-use Rattle.pl_model.specs.Known.{Known, asked_at}
 use Rattle.pl_model.specs.Legal as model_legal
-use Rattle.pl_model.specs.Recording.{has_number, posted_of}
+use Rattle.pl_model.specs.Outcomes.{outcome_of_placed}
+use Rattle.pl_model.specs.Posts.{AllAnswered}
 use Rattle.pl_model.specs.Saves as model_saves
 use Rattle.pl_model.specs.State as model_state
 use Rattle.pl_components.specs.Run.{Fixed}
-use Rattle.pl_components.specs.Problems.{least_outcome, outcome_of_problem}
+use Rattle.pl_components.specs.Problems.{least_outcome}
 use Rattle.pl_components.specs.Requests.{waiting_of}
 use Rattle.pl_components.specs.Entries.{state_of}
 use Rattle.pl_components.specs.Due.{IsQuiet}
@@ -40,10 +38,6 @@ LegalToo = (run : Fixed) (parallel : ℕ) (spelling : model.Spelling) (history :
 abbrev pub QuietToo : Type 0
 QuietToo = (run : Fixed) (parallel : ℕ) (spelling : model.Spelling) (history : List Event)
     → IsComponentRun run spelling history → IsQuiet run history → model_due.IsQuiet (known_of (whole run parallel) history)
-
--- the outcome that a problem at its position gives
-abbrev pub outcome_of_placed : Option (ℕ × Problem) → Option Outcome
-outcome_of_placed placed = option_and_then (λ one. outcome_of_problem one.0 one.1) placed
 
 -- the least problem gives the least outcome
 abbrev pub OutcomesAgree : Type 0
@@ -77,10 +71,6 @@ StoryToo = (run : Fixed) (parallel : ℕ) (spelling : model.Spelling) (history :
     → IsComponentRun run spelling history → (before now : ℕ) (marks : List ℕ) (texts : List (List ℕ))
     → IsStory run spelling (Rose before now) history marks texts
     → model_saves.IsStory (whole run parallel) spelling (Rose before now) history marks texts
-
--- every told request was answered
-abbrev pub AllAnswered : Known → Type 0
-AllAnswered known = (n : ℕ) → is_some (asked_at known n) ≡ true → has_number (posted_of known.history) n ≡ true
 
 -- where no request waits, every told one was answered
 abbrev pub AnsweredToo : Type 0

@@ -6,7 +6,6 @@ pub mod Due
 pub mod Legal
 pub mod Saves
 pub mod HostLines
-pub mod Causes
 pub mod Fulfilment
 pub mod Whole
 pub mod Laws

@@ -4,9 +4,8 @@ use Rattle.pl_events.specs.declared.event.Event.{Event}
 use Rattle.pl_events.specs.declared.event.What.{What}
 use Rattle.pl_events.specs.declared.event.What.TheVariants.{HostGone, Stopped}
 use Rattle.pl_decide.specs.declared.problem.Problem.{Problem}
-use Rattle.pl_decide.specs.declared.problem.Problem.TheVariants as problem
 use Rattle.pl_decide.specs.declared.outcome.Outcome.{Outcome}
-use Rattle.pl_decide.specs.declared.outcome.Outcome.TheVariants as outcome
+use Rattle.pl_model.specs.Outcomes.{outcome_of_problem}
 use Rattle.pl_model.specs.Problems.{problem_of_end, problem_of_stop}
 
 -- the problem that an event makes
@@ -20,18 +19,7 @@ abbrev pub has_problem : List Event → Bool
 has_problem [] = false
 has_problem (event ∷ past) = is_some (problem_of_event event.what) || has_problem past
 
--- the outcome that a problem at this position gives: its own where it has one, and else that the run failed
--- there; want of memory stands after every other
-abbrev pub outcome_of_problem : ℕ → Problem → Option Outcome
-outcome_of_problem at problem.StoreFault = Some outcome.StoreFault
-outcome_of_problem at problem.StartFault = Some outcome.StartFault
-outcome_of_problem at (problem.PipeFault child) = Some (outcome.PipeFault child)
-outcome_of_problem at (problem.ChildEnded child) = Some (outcome.ChildEnded child)
-outcome_of_problem at (problem.BadFrame child bytes) = Some (outcome.BadFrame child bytes)
-outcome_of_problem at problem.TooManyResources = Some outcome.TooManyResources
-outcome_of_problem at problem.NoMemory = None
-outcome_of_problem at trouble = Some (outcome.Failed at trouble)
-
+-- the outcome that a problem at this position gives, if there is one
 abbrev pub outcome_of_event : ℕ → Option Problem → Option Outcome
 outcome_of_event at None = None
 outcome_of_event at (Some trouble) = outcome_of_problem at trouble

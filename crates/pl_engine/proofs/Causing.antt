@@ -10,7 +10,7 @@ use Rattle.pl_events.specs.declared.event.HostEnd.{HostEnd}
 use Rattle.pl_events.specs.declared.event.HostEnd.TheVariants.{Ended, PipeFault, BadFrame, NoMemory}
 use Rattle.pl_world.specs.Counts.{Rose}
 use Rattle.pl_components.specs.Run.{Fixed}
-use Rattle.pl_components.specs.Causes.{has_end_by, is_end_by, is_output_end, is_read_fault}
+use Rattle.pl_model.specs.Causes.{has_end_by, is_end_by, is_output_end, is_read_fault}
 use Rattle.pl_engine.specs.Caused.{EndCaused, NewlyFor}
 use Rattle.pl_engine.specs.Heard.{IfEnded, IfFaulted}
 use Rattle.pl_engine.specs.Journal.{end_event}

@@ -9,8 +9,9 @@ use Rattle.pl_decide.specs.declared.problem.Problem.TheVariants as problem
 use Rattle.pl_events.specs.Closing.{has_stop}
 use Rattle.pl_events.specs.declared.event.Event.{Event}
 use Rattle.pl_world.specs.Told.{Grew, Piece}
+use Rattle.pl_model.specs.Outcomes.{outcome_of_problem}
 use Rattle.pl_components.specs.Run.{Fixed}
-use Rattle.pl_components.specs.Problems.{first_of, has_problem, least_outcome, outcome_of_event, outcome_of_problem, problem_of_event}
+use Rattle.pl_components.specs.Problems.{first_of, has_problem, least_outcome, outcome_of_event, problem_of_event}
 use Rattle.pl_components.specs.Requests.{waiting_of}
 use Rattle.pl_components.specs.Entries.{unrecorded_of}
 use Rattle.pl_components.specs.HostLines.{HostGave}

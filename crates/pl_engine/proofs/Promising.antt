@@ -13,7 +13,7 @@ use Rattle.pl_model.specs.Saves as whole_saves
 use Rattle.pl_model.specs.State as whole_state
 use Rattle.pl_components.specs.Run.{Fixed}
 use Rattle.pl_components.specs.Entries.{new_entries, state_of}
-use Rattle.pl_components.specs.Laws.{AllAnswered}
+use Rattle.pl_model.specs.Posts.{AllAnswered}
 use Rattle.pl_components.specs.HostLines as parts
 use Rattle.pl_components.specs.Legal.{IsLegal}
 use Rattle.pl_components.specs.Problems.{least_outcome}

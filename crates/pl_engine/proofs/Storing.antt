@@ -24,7 +24,7 @@ use Rattle.pl_state.specs.declared.snapshot.Snapshot.{Snapshot}
 use Rattle.pl_world.specs.Counts.{Rose}
 use Rattle.pl_checkpoint.specs.Spelled.{checkpoint_text}
 use Rattle.pl_engine.specs.Spelled.{host_spelling}
-use Rattle.pl_components.specs.Causes.{is_want_stop}
+use Rattle.pl_model.specs.Causes.{is_want_stop}
 use Rattle.pl_engine.specs.Answered.{Stops}
 use Rattle.pl_engine.specs.Journal.{Consistent, kept_event, run_of, stop_event, stopped_by}
 use Rattle.pl_engine.specs.Kept.{IfFault, IfWant}

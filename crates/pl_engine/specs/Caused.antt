@@ -2,7 +2,7 @@
 use Rattle.std.specs.Prelude.{◌≡◌, ℕ, Bool, true, false, List}
 use Rattle.pl_events.specs.declared.event.Event.{Event}
 use Rattle.pl_world.specs.Counts.{Rose}
-use Rattle.pl_components.specs.Causes.{has_end_by, has_stop_by, is_answer_fault, is_output_end, is_read_fault, is_store_fault}
+use Rattle.pl_model.specs.Causes.{has_end_by, has_stop_by, is_answer_fault, is_output_end, is_read_fault, is_store_fault}
 
 -- what stands now and did not stand before has its cause
 abbrev pub NewlyFor : Bool → Bool → Type 0 → Type 0

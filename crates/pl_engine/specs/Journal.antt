@@ -9,7 +9,7 @@ use Rattle.pl_events.specs.declared.event.What.TheVariants.{Told, HostGone, Kept
 use Rattle.pl_state.specs.declared.goal.Registration.{Registration}
 use Rattle.pl_state.specs.Component.{bare_state}
 use Rattle.pl_components.specs.Run.{Fixed}
-use Rattle.pl_components.specs.Causes.{has_want}
+use Rattle.pl_model.specs.Causes.{has_want}
 use Rattle.pl_components.specs.Problems.{has_problem, least_outcome}
 use Rattle.pl_components.specs.Requests.{last_number}
 use Rattle.pl_components.specs.Entries.{new_entries}

@@ -16,7 +16,8 @@ use Rattle.pl_model.specs.Known.{Known}
 use Rattle.pl_model.specs.Legal.{IsLegal}
 use Rattle.pl_model.specs.Saves.{IsSaved, IsStory, saves_of}
 use Rattle.pl_model.specs.State.{state_of}
-use Rattle.pl_components.specs.Laws.{AllAnswered, outcome_of_placed}
+use Rattle.pl_model.specs.Posts.{AllAnswered}
+use Rattle.pl_model.specs.Outcomes.{outcome_of_placed}
 use Rattle.pl_components.specs.Run.{Fixed}
 use Rattle.pl_components.specs.Whole.{is_built, whole}
 use Rattle.pl_engine.specs.Headline.{IsFinal}

@@ -10,7 +10,7 @@ use Rattle.pl_components.specs.Problems.{has_problem}
 use Rattle.pl_components.specs.Requests.{goals_of, may_be_next, waiting_of}
 use Rattle.pl_components.specs.Entries.{entry_of, new_entries, unrecorded_of}
 use Rattle.pl_engine.specs.Journal.{Consistent, told_event, stop_event, end_event}
-use Rattle.pl_components.specs.Causes.{is_want_end}
+use Rattle.pl_model.specs.Causes.{is_want_end}
 use Rattle.pl_engine.specs.Kept.{KeptIn}
 use Rattle.pl_events.specs.declared.event.Stop.{Stop}
 use Rattle.pl_components.specs.HostLines.{HostTook}

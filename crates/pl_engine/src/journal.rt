@@ -8,8 +8,9 @@ ghost use Rattle.pl_state.specs.Component.{bare_state};
 ghost use Rattle.pl_components.specs.Entries.{entry_if};
 ghost use Rattle.pl_components.specs.Due.{is_keep_due, is_post_due};
 ghost use Rattle.pl_components.specs.Legal.{IsSpelled, StopFits};
-ghost use Rattle.pl_components.specs.Causes.{is_want_end, is_want_stop};
-ghost use Rattle.pl_components.specs.Problems.{first_of, outcome_of_problem, outcome_of_event};
+ghost use Rattle.pl_model.specs.Causes.{is_want_end, is_want_stop};
+ghost use Rattle.pl_components.specs.Problems.{first_of, outcome_of_event};
+ghost use Rattle.pl_model.specs.Outcomes.{outcome_of_problem};
 
 use pl_decide::{Child, Outcome, Problem};
 use pl_events::{Event, History, HostEnd, Request, Stop, What};

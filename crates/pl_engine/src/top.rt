@@ -3,7 +3,7 @@ ghost use Rattle.pl_urn.specs.Grammar.{IsScope};
 ghost use Rattle.pl_state.specs.Component.{bare_state};
 ghost use Rattle.pl_world.specs.Counts.{Rose};
 ghost use Rattle.pl_world.specs.Told.{IsFresh};
-ghost use Rattle.pl_components.specs.Causes.{HasCauses};
+ghost use Rattle.pl_model.specs.Causes.{HasCauses};
 ghost use Rattle.pl_components.specs.HostLines.{HostLines};
 ghost use Rattle.pl_cli.specs.Reading.{host_words};
 ghost use Rattle.pl_components.specs.Run.{Fixed};

@@ -8,6 +8,7 @@ pub mod Requests
 pub mod Rows
 pub mod Problems
 pub mod History
+pub mod Outcomes
 pub mod Planned
 pub mod Entries
 pub mod State
@@ -22,3 +23,4 @@ pub mod Plan
 pub mod Frames
 pub mod LaneLines
 pub mod HostLines
+pub mod Causes

@@ -1,5 +1,5 @@
 -- What the host is answered.
-use Rattle.std.specs.Prelude.{ℕ, Bool, true, false, ◌&&◌, if◌then◌else◌, nat_lt, Option, None, Some, List, [], length, option_and_then, option_map, codes}
+use Rattle.std.specs.Prelude.{◌≡◌, ℕ, Bool, true, false, ◌&&◌, if◌then◌else◌, nat_lt, Option, None, Some, is_some, List, [], length, option_and_then, option_map, codes}
 use Rattle.pl_state.specs.declared.entry.Entry.{Entry}
 use Rattle.pl_events.specs.Halted as unanswered
 use Rattle.pl_events.specs.declared.event.Answer.{Answer}
@@ -13,6 +13,7 @@ use Rattle.pl_decide.specs.declared.problem.Problem.{Problem}
 use Rattle.pl_decide.specs.declared.problem.Problem.TheVariants as problem
 use Rattle.pl_model.specs.Run.{Spelling, longest_body}
 use Rattle.pl_model.specs.Tickets.{reply_to}
+use Rattle.pl_model.specs.Recording.{has_number, posted_of}
 use Rattle.pl_model.specs.Due.{is_recorded_about, is_unsent}
 use Rattle.pl_model.specs.Entries.{entry_of}
 use Rattle.pl_model.specs.Known.{Fate, halted, refused, accepted, Asked, Known, asked_at, has_problem}
@@ -69,3 +70,7 @@ shortened spelling known n answer =
 -- the answer to request n; after a problem a result that would be too long is halted too
 abbrev pub answer_of : Spelling → Known → ℕ → Answer
 answer_of spelling known n = shortened spelling known n (answer_for known (asked_at known n))
+
+-- every told request was answered
+abbrev pub AllAnswered : Known → Type 0
+AllAnswered known = (n : ℕ) → is_some (asked_at known n) ≡ true → has_number (posted_of known.history) n ≡ true

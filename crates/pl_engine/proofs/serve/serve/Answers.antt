@@ -1,6 +1,6 @@
 use Rattle.std.proofs.Common.{true, false, subst, arith}
 use Rattle.pl_components.specs.Run.{Fixed}
-use Rattle.pl_components.specs.Causes.{has_stop_by, is_answer_fault, is_store_fault}
+use Rattle.pl_model.specs.Causes.{has_stop_by, is_answer_fault, is_store_fault}
 use Rattle.pl_engine.specs.Journal.{run_of}
 use Rattle.pl_engine.specs.Kept.{KeepsStored}
 use Rattle.pl_engine.specs.Answered.{KeepsWritten}

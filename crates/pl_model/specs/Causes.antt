@@ -24,6 +24,11 @@ abbrev pub is_store_fault : Stop → Bool
 is_store_fault stopped.StoreFault = true
 is_store_fault _ = false
 
+-- whether the stop says that a child could not be started
+abbrev pub is_start_fault : Stop → Bool
+is_start_fault stopped.StartFault = true
+is_start_fault _ = false
+
 -- whether the stop says that an answer could not be given
 abbrev pub is_answer_fault : Stop → Bool
 is_answer_fault stopped.HostPipeFault = true
@@ -80,7 +85,11 @@ abbrev pub has_want : List Event → Bool
 has_want [] = false
 has_want (event ∷ past) = is_want event.what || has_want past
 
--- every fault, end and want that the history tells of has its cause, whatever the outcome is
+-- a start that the history says failed has its cause: the spawner's count of faults rose in the run
+abbrev pub HasStartCause : ℕ → ℕ → List Event → Type 0
+HasStartCause before now history = has_stop_by is_start_fault history ≡ true → Rose before now
+
+-- every other fault, end and want that the history tells of has its cause, whatever the outcome is
 pub record HasCauses (counts : RunCounts) (history : List Event) : Type 0 where
   pub store : has_stop_by is_store_fault history ≡ true → Rose counts.store_before counts.store_now
   pub answers : has_stop_by is_answer_fault history ≡ true → Rose 0 counts.writing
