@@ -1,5 +1,5 @@
 -- Which histories a run may have.
-use Rattle.std.specs.Prelude.{⊤, ◌≡◌, ℕ, ◌≤◌, ◌^◌, Bool, true, false, Option, None, List, [], ◌∷◌}
+use Rattle.std.specs.Prelude.{⊤, ◌≡◌, ℕ, Bool, true, false, Option, None, List, [], ◌∷◌}
 use Rattle.pl_events.specs.Closing.{has_host_end, has_stop}
 use Rattle.pl_events.specs.declared.event.Event.{Event}
 use Rattle.pl_events.specs.declared.event.What.{What}
@@ -10,7 +10,6 @@ use Rattle.pl_events.specs.declared.event.Stop.{Stop}
 use Rattle.pl_events.specs.declared.event.Stop.TheVariants.{StoreFault, StartFault, HostPipeFault, TooManyResources, MessageTooLong, NoMemory}
 use Rattle.pl_options.specs.GoalOf.{is_provider_type}
 use Rattle.pl_model.specs.Run.{Spelling}
-use Rattle.pl_model.specs.Known.{number_of}
 use Rattle.pl_model.specs.Legal.{HasForm}
 use Rattle.pl_components.specs.Run.{Fixed}
 use Rattle.pl_components.specs.Requests.{may_be_next}
@@ -26,13 +25,11 @@ pub record IsSpelled (spelling : Spelling) (request : Request) : Type 0 where
   pub form : HasForm spelling request
   pub other : is_of_provider_type request ≡ false
 
--- a request may be told: by the registrar, before the host's end, spelled, with a number that a host may
--- give, and where it may come next
+-- a request may be told: by the registrar, before the host's end, spelled, and where it may come next
 pub record MayBeTold (run : Fixed) (spelling : Spelling) (past : List Event) (seat : ℕ) (request : Request) : Type 0 where
   pub registrar : seat ≡ 0
   pub host_open : has_host_end past ≡ false
   pub spelled : IsSpelled spelling request
-  pub within : number_of request ≤ 2 ^ 53
   pub next : may_be_next run past request ≡ true
 
 -- the host may end: once, as the registrar saw it

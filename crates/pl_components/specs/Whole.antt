@@ -1,18 +1,14 @@
 -- Runs of components as the whole definitions see them.
-use Rattle.std.specs.Prelude.{⊤, ◌≡◌, ℕ, Bool, false, ◌&&◌, ◌||◌, None, List, [], ◌∷◌}
+use Rattle.std.specs.Prelude.{ℕ, Bool, false, ◌&&◌, ◌||◌, None, List, []}
 use Rattle.pl_urn.specs.Grammar.{IsScope}
-use Rattle.pl_options.specs.GoalOf.{is_provider_type}
 use Rattle.pl_state.specs.Component.{bare_state}
 use Rattle.pl_events.specs.declared.event.Event.{Event}
 use Rattle.pl_events.specs.declared.event.Request.{Request}
 use Rattle.pl_events.specs.declared.event.Request.TheVariants.{Register}
-use Rattle.pl_events.specs.declared.event.What.{What}
-use Rattle.pl_events.specs.declared.event.What.TheVariants.{Told}
 use Rattle.pl_model.specs.declared.mode.Mode.TheVariants.{Up}
 use Rattle.pl_model.specs.Run as model
-use Rattle.pl_model.specs.Frames as frames
 use Rattle.pl_model.specs.Known.{Known, has_problem}
-use Rattle.pl_model.specs.Legal.{HasForm, may_be_next}
+use Rattle.pl_model.specs.Legal.{may_be_next}
 use Rattle.pl_components.specs.Run.{Fixed}
 use Rattle.pl_components.specs.Requests.{is_acceptable}
 use Rattle.pl_components.specs.Legal.{IsLegal}

@@ -1,5 +1,5 @@
 -- What was taken from the host stands to the history as the definitions say.
-use Rattle.std.proofs.Common.{◌≡◌, ℕ, ◌≤◌, ◌^◌, Bool, true, false, List, [], ◌∷◌, ◌++◌, Option, Some, None, option_and_then, IfSome, refl, sym, ◌∙◌, ap, subst, inl, inr, arith}
+use Rattle.std.proofs.Common.{◌≡◌, ℕ, Bool, true, false, List, [], ◌∷◌, ◌++◌, Option, Some, None, option_and_then, IfSome, refl, sym, ◌∙◌, ap, subst, inl, inr, arith}
 use Rattle.std.specs.List.{list_all}
 use Rattle.pl_model.specs.Frames.{Causes}
 use Rattle.pl_state.specs.declared.goal.Registration.{Registration}
@@ -13,7 +13,7 @@ use Rattle.pl_events.specs.declared.event.HostEnd.TheVariants.{Success, Error, E
 use Rattle.pl_host_msg.specs.declared.word.HostWord.{HostWord}
 use Rattle.pl_host_msg.specs.declared.word.HostWord.TheVariants.{Request as Asks, Success as Done}
 use Rattle.pl_host_msg.specs.Word.{word_of}
-use Rattle.pl_host_msg.proofs.Numbers.{word_number_in_range, word_type_plain}
+use Rattle.pl_host_msg.proofs.Numbers.{word_type_plain}
 use Rattle.pl_world.specs.Counts.{Rose}
 use Rattle.pl_world.specs.Told.{Grew}
 use Rattle.pl_world.specs.Frames.{IsBody, frame_of}
@@ -146,12 +146,6 @@ TakenNow-registered false run body request old new failed taken taken' faults en
     (inl (is_body, no_message-refused run old.history body request word refused, refl))
 TakenNow-registered false run body request old new failed taken taken' faults ends took is_body word grew (over, inr (is, want)) =
     took-end run _ old.history new.history taken taken' (frame_of body) NoMemory is took grew (want, inl (inr (body, is_body, refl)))
-
--- the number of a request that was heard
-pub within-heard : (body : List ℕ) (word : HostWord) (request : Request) (n : ℕ) (told : Registration)
-    → word_of body ≡ Some word → word ≡ Asks request → Register n told ≡ request → n ≤ 2 ^ 53
-within-heard body word request n told spells is parts =
-    (word_number_in_range body n told (spells ∙ ap (λ (w : HostWord). Some w) (is ∙ ap (λ (r : Request). Asks r) (sym parts)))).1
 
 -- a registration that was heard is spelled by its body, and is no provider's
 pub spelled-heard : (body : List ℕ) (word : HostWord) (request : Request) (n : ℕ) (told : Registration) → IsBody body

@@ -7,6 +7,11 @@ use Rattle.pl_state.specs.declared.snapshot.Snapshot.{Snapshot}
 use Rattle.pl_decide.specs.declared.outcome.Outcome.{Outcome}
 use Rattle.pl_decide.specs.declared.outcome.Outcome.TheVariants.{Done}
 use Rattle.pl_events.specs.declared.event.Event.{Event}
+use Rattle.pl_events.specs.declared.event.What.{What}
+use Rattle.pl_events.specs.declared.event.What.TheVariants.{Told, HostGone, Kept, Posted, Stopped}
+use Rattle.pl_events.specs.declared.event.Stop.{Stop}
+use Rattle.pl_events.specs.declared.event.Stop.TheVariants.{StartFault}
+use Rattle.pl_model.specs.Causes.{HasStartCause, has_stop_by, is_start_fault, is_stop_by}
 use Rattle.pl_model.specs.Frames.{Causes}
 use Rattle.pl_model.specs.Fulfilment as whole_fulfilment
 use Rattle.pl_model.specs.Saves as whole_saves
@@ -15,7 +20,7 @@ use Rattle.pl_components.specs.Run.{Fixed}
 use Rattle.pl_components.specs.Entries.{new_entries, state_of}
 use Rattle.pl_model.specs.Posts.{AllAnswered}
 use Rattle.pl_components.specs.HostLines as parts
-use Rattle.pl_components.specs.Legal.{IsLegal}
+use Rattle.pl_components.specs.Legal.{IsLegal, MayHappen, StopFits}
 use Rattle.pl_components.specs.Problems.{least_outcome}
 use Rattle.pl_components.specs.Requests.{waiting_of}
 use Rattle.pl_components.specs.Saves.{IsSaved, IsStory, saves_of}
@@ -131,3 +136,47 @@ module _ {A : Type 0} (run : Fixed) (stack : IsScope run.stack) (project : IsSco
   outcome-promised None Unused Early marks outcome before now legal h = h
   outcome-promised (Some used) Unused Early marks outcome before now legal h =
       outcome_too run stack project history legal.legal marks wanted outcome before now h
+
+-- ---- what the definitions of components say alone
+
+-- no start failed: no child is started yet
+fits_no_start : (run : Fixed) (past : List Event) (stop : Stop) → StopFits run host_spelling past stop → is_start_fault stop ≡ false
+fits_no_start run past StartFault h = absurd h
+fits_no_start run past _ h = refl
+
+happens_no_start : (run : Fixed) (past : List Event) (seat : ℕ) (what : What) → MayHappen run host_spelling past seat what
+    → is_stop_by is_start_fault what ≡ false
+happens_no_start run past seat (Stopped stop) h = fits_no_start run past stop h.fits
+happens_no_start run past seat _ h = refl
+
+no_start : (run : Fixed) (history : List Event) → IsLegal run host_spelling history → has_stop_by is_start_fault history ≡ false
+no_start run [] legal = refl
+no_start run (event ∷ past) legal =
+    let here : is_stop_by is_start_fault event.what ≡ false = happens_no_start run past event.seat event.what legal.1 in
+    rw here (no_start run past legal.0)
+
+start_caused : (run : Fixed) (history : List Event) (before now : ℕ) → IsLegal run host_spelling history → HasStartCause before now history
+start_caused run history before now legal =
+    λ stands. absurd (let e : false ≡ true = sym (no_start run history legal) ∙ stands in cc)
+
+module _ {A : Type 0} (run : Fixed) (history : List Event) (faults : A → ℕ) (wanted : Bool) where
+  pub start-promised : (host : Option A) (Unused : Type 0) (before now : ℕ)
+      → MatchOption host Unused (λ used. worked.IsLegalRun run history (faults used) wanted)
+      → IfSome host (λ _. HasStartCause before now history)
+  start-promised None Unused before now legal = tt
+  start-promised (Some used) Unused before now legal = start_caused run history before now legal.legal
+
+  pub components-promised : (host : Option A) (Unused Untouched Early rose : Type 0) (read_faults read_ends : A → ℕ)
+      (taken : A → Option (List ℕ)) (given : A → Option (List Piece)) (marks : List ℕ) (outcome : Outcome) (before now : Option (List (List ℕ)))
+      → MatchOption host Unused (λ used. worked.IsLegalRun run history (faults used) wanted)
+      → MatchOption host Untouched (λ _. stored.IsKeptUp run host_spelling rose wanted history marks before now)
+      → IfSome host (λ used. parts.HostLines run host_spelling
+      (record { faults = read_faults used; ends = read_ends used; wanted = wanted })
+      (record { faults = faults used; ends = 0; wanted = wanted }) history (taken used) (given used))
+      → MatchOption host Early (λ _. worked.IsOutcome run history marks wanted outcome before now)
+      → IfSome host (λ used. promise.IsOfComponents run
+      (record { faults = read_faults used; ends = read_ends used; wanted = wanted })
+      (record { faults = faults used; ends = 0; wanted = wanted }) rose history marks (taken used) (given used) outcome before now)
+  components-promised None Unused Untouched Early rose read_faults read_ends taken given marks outcome before now legal saved lines done = tt
+  components-promised (Some used) Unused Untouched Early rose read_faults read_ends taken given marks outcome before now legal saved lines done =
+      record { legal = legal; saved = saved; host_lines = lines; outcome_is = done }

@@ -20,7 +20,10 @@ use Rattle.pl_model.specs.Posts.{AllAnswered}
 use Rattle.pl_model.specs.Outcomes.{outcome_of_placed}
 use Rattle.pl_components.specs.Run.{Fixed}
 use Rattle.pl_components.specs.Whole.{is_built, whole}
+use Rattle.pl_components.specs.HostLines as parts
+use Rattle.pl_engine.specs.Headline as worked
 use Rattle.pl_engine.specs.Headline.{IsFinal}
+use Rattle.pl_engine.specs.Stored as stored
 use Rattle.pl_engine.specs.Spelled.{host_spelling}
 
 -- the fixed data of a run of these names: it goes up from an empty state, without limits; no provider has a child yet,
@@ -71,3 +74,12 @@ pub record IsOutcome (run : Fixed) (history : List Event) (marks : List ℕ) (wa
     (before now : Option (List (List ℕ))) : Type 0 where
   pub least : IsFinal (outcome_of_placed (problem_of (run_as run) history)) wanted outcome
   pub done : outcome ≡ Done → IsDone run history marks before now
+
+-- what such a run does by the definitions of components, which let less stand while no operation is served: no start
+-- fault, no told registration that may not stand, and one further text in the story at most
+pub record IsOfComponents (run : Fixed) (reading writing : Causes) (rose : Type 0) (history : List Event) (marks : List ℕ)
+    (taken : Option (List ℕ)) (given : Option (List Piece)) (outcome : Outcome) (before now : Option (List (List ℕ))) : Type 0 where
+  pub legal : worked.IsLegalRun run history writing.faults writing.wanted
+  pub saved : stored.IsKeptUp run host_spelling rose writing.wanted history marks before now
+  pub host_lines : parts.HostLines run host_spelling reading writing history taken given
+  pub outcome_is : worked.IsOutcome run history marks writing.wanted outcome before now

@@ -1,5 +1,5 @@
 ghost use Rattle.pl_model.specs.Problems.{problem_of_end, problem_of_stop};
-ghost use Rattle.std.specs.Prelude.{◌≡◌, ◌+◌, ◌++◌, ◌≤◌, ◌^◌, [], ◌∷◌, true, false, ◌||◌, Some, None, is_some, length, IfErr, OnErr, OnOk};
+ghost use Rattle.std.specs.Prelude.{◌≡◌, ◌+◌, ◌++◌, ◌≤◌, [], ◌∷◌, true, false, ◌||◌, Some, None, is_some, length, IfErr, OnErr, OnOk};
 ghost use Rattle.pl_engine.specs.Spelled.{host_spelling};
 ghost use Rattle.pl_engine.specs.Journal.{Consistent, end_event, kept_event, posted_event, run_of, stopped_by, told_event};
 ghost use Rattle.pl_events.specs.Closing.{has_host_end};
@@ -156,7 +156,6 @@ impl Journal {
     pub fn tell(&mut self, n: u64, told: Registration) -> Result<(), OutOfMemory>
         requires consistent { Consistent (run_of self.old) self.old }
         requires host_open { has_host_end self.old.history ≡ false }
-        requires within { n ≤ 2 ^ 53 }
         requires spelled { IsSpelled host_spelling (Request.Register n told) }
         requires next { may_be_next (run_of self.old) self.old.history (Request.Register n told) ≡ true }
         ensures consistent { Consistent (run_of self.old) self.new }

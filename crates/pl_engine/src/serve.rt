@@ -1,5 +1,5 @@
 ghost use Rattle.pl_model.specs.Problems.{problem_of_end};
-ghost use Rattle.std.specs.Prelude.{◌≡◌, ◌≤◌, ◌<◌, ◌^◌, ◌∷◌, true, false, not, ℕ, None, Some, IfOk, IfSome, length, nat_lt, []};
+ghost use Rattle.std.specs.Prelude.{◌≡◌, ◌≤◌, ◌<◌, ◌∷◌, true, false, not, ℕ, None, Some, IfOk, IfSome, length, nat_lt, []};
 ghost use Rattle.pl_state.specs.declared.goal.Registration.{Registration};
 ghost use Rattle.pl_components.specs.Requests.{goal_at, goal_for, goals_of, is_registration};
 ghost use Rattle.pl_components.specs.Entries.{entry_if};
@@ -46,7 +46,6 @@ fn halt<Q: Pipe>(
 ) -> bool
     requires rest { AtRest (run_of journal.old) journal.old writing.old.failed }
     requires halted { journal.old.halted ≡ true }
-    requires within { n ≤ 2 ^ 53 }
     requires spelled { IsSpelled host_spelling (Request.Register n told) }
     requires above { journal.old.last < n }
     ensures goes { Goes result n told (run_of journal.old) journal.old journal.new writing.new.failed }
@@ -86,7 +85,6 @@ fn accept<S: Store, Q: Pipe>(
 ) -> bool
     requires rest { AtRest (run_of journal.old) journal.old writing.old.failed }
     requires free { journal.old.halted ≡ false }
-    requires within { n ≤ 2 ^ 53 }
     requires spelled { IsSpelled host_spelling (Request.Register n told) }
     requires above { journal.old.last < n }
     requires placeable { is_placeable (run_of journal.old) journal.old.state.entries told ≡ true }
@@ -203,7 +201,6 @@ fn register<S: Store, Q: Pipe>(
     requires rest { AtRest (run_of journal.old) journal.old writing.old.failed }
     requires stack { IsScope journal.old.state.stack }
     requires project { IsScope journal.old.project }
-    requires within { n ≤ 2 ^ 53 }
     requires spelled { IsSpelled host_spelling (Request.Register n told) }
     ensures did { Registered result (Request.Register n told) body (run_of journal.old) journal.old journal.new writing.new.failed }
     ensures faults_never_fall { S.faults store.old ≤ S.faults store.new }
@@ -260,7 +257,6 @@ fn take_up<S: Store, Q: Pipe>(
     requires rest { AtRest (run_of journal.old) journal.old writing.old.failed }
     requires stack { IsScope journal.old.state.stack }
     requires project { IsScope journal.old.project }
-    requires within { (n : ℕ) (told : Registration) → Request.Register n told ≡ request → n ≤ 2 ^ 53 }
     requires spelled { (n : ℕ) (told : Registration) → Request.Register n told ≡ request → IsSpelled host_spelling (Request.Register n told) }
     ensures did { Registered result request body (run_of journal.old) journal.old journal.new writing.new.failed }
     ensures faults_never_fall { S.faults store.old ≤ S.faults store.new }

@@ -3,7 +3,7 @@ ghost use Rattle.pl_urn.specs.Grammar.{IsScope};
 ghost use Rattle.pl_state.specs.Component.{bare_state};
 ghost use Rattle.pl_world.specs.Counts.{Rose};
 ghost use Rattle.pl_world.specs.Told.{IsFresh};
-ghost use Rattle.pl_model.specs.Causes.{HasCauses};
+ghost use Rattle.pl_model.specs.Causes.{HasCauses, HasStartCause};
 ghost use Rattle.pl_components.specs.HostLines.{HostLines};
 ghost use Rattle.pl_cli.specs.Reading.{host_words};
 ghost use Rattle.pl_components.specs.Run.{Fixed};
@@ -420,6 +420,14 @@ fn up<R: Wait, S: Store, B: Drop, P: Spawner<Cover = S::Cover>, W: Drop, I: Drop
           writing = P.Pipe.faults used.1;
           wanted = result.run.wanted;
         }) (reverse result.run.history.items)) }
+    ensures start_cause { IfSome result.run.host (λ _.
+        HasStartCause (P.faults world.spawner) (P.faults result.world.spawner) (reverse result.run.history.items)) }
+    ensures components { IfSome result.run.host (λ used.
+        promise.IsOfComponents (record { stack = run.stack; project = run.project })
+        (record { faults = P.Pipe.faults used.0; ends = P.Pipe.ends used.0; wanted = result.run.wanted })
+        (record { faults = P.Pipe.faults used.1; ends = 0; wanted = result.run.wanted })
+        (Rose (S.faults world.store) (S.faults result.world.store)) (reverse result.run.history.items) result.run.marks.items
+        (P.Pipe.taken used.0) (P.Pipe.given used.1) result.outcome (S.story world.store) (S.story result.world.store)) }
     ensures started { MatchOption result.run.host (P.started result.world.spawner ≡ P.started world.spawner) (λ _.
         P.started result.world.spawner ≡ P.started world.spawner ++ command_words run.host run.stack run.project ∷ []) }
     ensures outcome { MatchOption result.run.host
@@ -491,6 +499,14 @@ pub fn engine<
           writing = P.Pipe.faults used.1;
           wanted = result.run.wanted;
         }) (reverse result.run.history.items)) }
+    ensures start_cause { IfSome result.run.host (λ _.
+        HasStartCause (P.faults world.spawner) (P.faults result.world.spawner) (reverse result.run.history.items)) }
+    ensures components { IfSome result.run.host (λ used.
+        (run : Fixed) × IsRunOf (map string_bytes words.now) run × (promise.IsOfComponents run
+        (record { faults = P.Pipe.faults used.0; ends = P.Pipe.ends used.0; wanted = result.run.wanted })
+        (record { faults = P.Pipe.faults used.1; ends = 0; wanted = result.run.wanted })
+        (Rose (S.faults world.store) (S.faults result.world.store)) (reverse result.run.history.items) result.run.marks.items
+        (P.Pipe.taken used.0) (P.Pipe.given used.1) result.outcome (S.story world.store) (S.story result.world.store))) }
     ensures started { MatchOption result.run.host (P.started result.world.spawner ≡ P.started world.spawner) (λ _.
         (run : Fixed) × IsRunOf (map string_bytes words.now) run × (P.started result.world.spawner ≡ P.started world.spawner ++ command_words (host_words (map string_bytes words.now)) run.stack run.project ∷ [])) }
     ensures outcome { MatchOption result.run.host

@@ -3,7 +3,7 @@ use Rattle.std.specs.Prelude.{⊤, ◌≡◌, ◌≢◌, ◌⊎◌, ℕ, ◌==�
 use Rattle.pl_world.specs.Frames.{IsBody}
 use Rattle.pl_state.specs.Chain.{some_passes}
 use Rattle.pl_state.specs.Kinds.{is_provider_goal}
-use Rattle.pl_events.specs.Closing.{has_host_end, has_stop}
+use Rattle.pl_events.specs.Closing.{has_stop}
 use Rattle.pl_events.specs.declared.event.Event.{Event}
 use Rattle.pl_events.specs.declared.event.Request.{Request}
 use Rattle.pl_events.specs.declared.event.What.{What}
@@ -18,7 +18,7 @@ use Rattle.pl_model.specs.Asked.{ask_of, call_of}
 use Rattle.pl_model.specs.Claims.{id_of_row, usable_id}
 use Rattle.pl_model.specs.Due.{due_work, has_open, is_due, is_due_on, is_post_due, over_limit, to_clear, to_drop, to_keep}
 use Rattle.pl_model.specs.History.{known_of}
-use Rattle.pl_model.specs.Known.{Asked, Known, asked_at, claim_row, goal_at, number_of}
+use Rattle.pl_model.specs.Known.{Asked, Known, asked_at, claim_row, goal_at, host_ended, number_of}
 use Rattle.pl_model.specs.Posts.{answer_for, is_too_long}
 
 -- the number of the newest request that was told, 0 where none was
@@ -34,18 +34,18 @@ may_be_next known request = nat_lt (last_of known.asked) (number_of request)
 abbrev pub HasForm : Spelling → Request → Type 0
 HasForm spelling request = (body : List ℕ) × IsBody body × (spelling.request_in body ≡ Some request)
 
--- a request may be told: by the registrar, before the host's end, in a form that it has, with a number above those
--- before it
+-- a request may be told: by the registrar, before the host's end (so never where a run has no host), in a form that it
+-- has, with a number above those before it
 pub record MayBeTold (spelling : Spelling) (known : Known) (seat : ℕ) (request : Request) : Type 0 where
   pub registrar : seat ≡ 0
-  pub host_open : has_host_end known.history ≡ false
+  pub host_open : host_ended known ≡ false
   pub form : HasForm spelling request
   pub next : may_be_next known request ≡ true
 
 -- the host may end: once, as the registrar saw it
 pub record MayEnd (known : Known) (seat : ℕ) : Type 0 where
   pub registrar : seat ≡ 0
-  pub host_open : has_host_end known.history ≡ false
+  pub host_open : host_ended known ≡ false
 
 -- an operation may be begun: it carries its ticket, and is due on its lane
 pub record MayBegin (known : Known) (ticket lane : ℕ) (about : Op) : Type 0 where

@@ -7,13 +7,9 @@ use Rattle.pl_engine.specs.Journal.{end_event, run_of}
 use Rattle.pl_engine.proofs.Accepting.{Adds-ended}
 use Rattle.pl_engine.proofs.Answering.{Written-step, is_unposted}
 use Rattle.pl_engine.proofs.Causing.{EndCaused-ended, EndCaused-free, EndCaused-registered}
-use Rattle.pl_engine.proofs.Hearing.{TakenNow-ended, TakenNow-registered, TakenNow-success, spelled-heard, within-heard}
+use Rattle.pl_engine.proofs.Hearing.{TakenNow-ended, TakenNow-registered, TakenNow-success, spelled-heard}
 use Rattle.pl_engine.proofs.Storing.{Stored-step, or_keeps}
 use Rattle.pl_engine.proofs.serve.step.Goals as goal
-
-pub take_up-requires-clause-within : goal.take_up-requires-clause-within
-take_up-requires-clause-within g c κs within = λ n told is.
-    within-heard c.in-Ok.field-0.body c.in-Ok.field-0.word c.in-Request.request n told c.in-Ok.ensures.heard.word (ap (λ (h : Heard). h.word) c.in-Ok.field-0-is ∙ c.in-Request.is) is
 
 pub take_up-requires-clause-spelled : goal.take_up-requires-clause-spelled
 take_up-requires-clause-spelled g c κs within = λ n told is.

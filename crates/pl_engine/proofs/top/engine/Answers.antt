@@ -29,6 +29,16 @@ returns-in-Ok-clause-host_lines g c =
     })
     c.up.ensures.host_lines
 
+pub returns-in-Ok-clause-components : goal.returns-in-Ok-clause-components
+returns-in-Ok-clause-components g c =
+    of-words c.up.result.run.host (map string_bytes c.args.words.now) c.up_words.result _
+    (record {
+      accepted = c.in-Ok.ensures.accepted;
+      stack = if_up c.in-Ok.command c.up_words.result (λ (run : RunWords). given_value Stack (engine_words (map string_bytes c.args.words.now)) ≡ Some run.stack) c.up_words.ensures c.in-Ok.ensures.stack;
+      project = if_up c.in-Ok.command c.up_words.result (λ (run : RunWords). given_value Project (engine_words (map string_bytes c.args.words.now)) ≡ Some run.project) c.up_words.ensures c.in-Ok.ensures.project;
+    })
+    c.up.ensures.components
+
 pub up-requires-clause-stack : goal.up-requires-clause-stack
 up-requires-clause-stack g c κs within =
     if_up c.in-Ok.command c.up_words.result (λ (run : RunWords). IsScope run.stack) c.up_words.ensures c.in-Ok.ensures.stack_scope

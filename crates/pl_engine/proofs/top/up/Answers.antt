@@ -1,7 +1,7 @@
 use Rattle.std.proofs.Common.{◌≡◌, [], reverse}
 use Rattle.pl_world.specs.Counts.{Rose}
 use Rattle.pl_engine.specs.Headline.{IsEarly, IsUntouched}
-use Rattle.pl_engine.proofs.Promising.{legal-promised, lines-promised, outcome-promised, saved-promised}
+use Rattle.pl_engine.proofs.Promising.{components-promised, legal-promised, lines-promised, outcome-promised, saved-promised, start-promised}
 use Rattle.pl_engine.proofs.top.up.Goals as goal
 
 pub returns-clause-legal : goal.returns-clause-legal
@@ -35,3 +35,22 @@ returns-clause-outcome g c =
     c.up_by_components.result.run.marks.items c.up_by_components.result.outcome
     (g.S.Store.story c.args.world.store) (g.S.Store.story c.up_by_components.result.world.store)
     c.up_by_components.ensures.legal c.up_by_components.ensures.outcome
+
+pub returns-clause-start_cause : goal.returns-clause-start_cause
+returns-clause-start_cause g c =
+    start-promised (record { stack = c.args.run.stack; project = c.args.run.project })
+    (reverse c.up_by_components.result.run.history.items) _ c.up_by_components.result.run.wanted
+    c.up_by_components.result.run.host (c.up_by_components.result.run.history.items ≡ [])
+    (g.P.Spawner.faults c.args.world.spawner) (g.P.Spawner.faults c.up_by_components.result.world.spawner)
+    c.up_by_components.ensures.legal
+
+pub returns-clause-components : goal.returns-clause-components
+returns-clause-components g c =
+    components-promised (record { stack = c.args.run.stack; project = c.args.run.project })
+    (reverse c.up_by_components.result.run.history.items) _ c.up_by_components.result.run.wanted
+    c.up_by_components.result.run.host (c.up_by_components.result.run.history.items ≡ [])
+    (IsUntouched c.up_by_components.result.run.marks.items (g.S.Store.story c.args.world.store) (g.S.Store.story c.up_by_components.result.world.store)) _
+    (Rose (g.S.Store.faults c.args.world.store) (g.S.Store.faults c.up_by_components.result.world.store)) _ _ _ _
+    c.up_by_components.result.run.marks.items c.up_by_components.result.outcome
+    (g.S.Store.story c.args.world.store) (g.S.Store.story c.up_by_components.result.world.store)
+    c.up_by_components.ensures.legal c.up_by_components.ensures.saved c.up_by_components.ensures.host_lines c.up_by_components.ensures.outcome
