@@ -26,17 +26,17 @@ use Rattle.pl_model.specs.History.{goals_after, known_of}
 use Rattle.pl_model.specs.Known.{Fate, halted, refused, accepted, Known, decided_goal, goal_at}
 use Rattle.pl_model.specs.Requests.{default_goal, default_urn, fate_of, goals_by, goals_made, has_goal, invoked_version, uses_default, with_default, with_goal, with_invoked, with_provider, with_result}
 
-same_number : (n : ℕ) → (n == n) ≡ true
+pub same_number : (n : ℕ) → (n == n) ≡ true
 same_number n = grind (arith, nat_tests)
 
-or_true : (a : Bool) → (a || true) ≡ true
+pub or_true : (a : Bool) → (a || true) ≡ true
 or_true true = refl
 or_true false = refl
 
-equal_numbers : (a b : ℕ) → (a == b) ≡ true → a ≡ b
+pub equal_numbers : (a b : ℕ) → (a == b) ≡ true → a ≡ b
 equal_numbers a b h = grind (arith, nat_tests)
 
-other_numbers : (a b : ℕ) → a < b → (b == a) ≡ false
+pub other_numbers : (a b : ℕ) → a < b → (b == a) ≡ false
 other_numbers a b h = grind (arith, nat_tests)
 
 -- a list has grown at its head
@@ -64,7 +64,7 @@ numbered_below (y ∷ ys) n x h = by (length ys == n) refl (numbered_below ys n 
     by true is rest h = let e : length ys ≡ n = equal_numbers (length ys) n is in omega arith
     by false is rest h = let less : n < length ys = rest h in omega arith
 
-numbered_more : {X : Type 0} (y : X) (xs : List X) (n : ℕ) (x : X) → numbered xs n ≡ Some x → numbered (y ∷ xs) n ≡ Some x
+pub numbered_more : {X : Type 0} (y : X) (xs : List X) (n : ℕ) (x : X) → numbered xs n ≡ Some x → numbered (y ∷ xs) n ≡ Some x
 numbered_more y xs n x h = rw (other_numbers n (length xs) (numbered_below xs n x h)) h
 
 numbered_added : {X : Type 0} (added xs : List X) (n : ℕ) (x : X) → numbered xs n ≡ Some x → numbered (added ++ xs) n ≡ Some x
@@ -301,7 +301,7 @@ recordings-stay run event past number h = by (recorded_by past event.what)
     by None = h
     by (Some other) = rw h (or_true (other == number))
 
-decided_as : (run : Fixed) (history : List Event)
+pub decided_as : (run : Fixed) (history : List Event)
     → (known_of run history).decided
     ≡ decided_of (known_of run history).run (answers_of (known_of run history).history) (known_of run history).goals
 unfolding known_of

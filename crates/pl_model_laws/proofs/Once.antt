@@ -22,15 +22,15 @@ use Rattle.pl_model_laws.specs.Laws.{is_configure}
 equal_numbers : (a b : ℕ) → (a == b) ≡ true → a ≡ b
 equal_numbers a b h = grind (arith, nat_tests)
 
-and_left : (a b : Bool) → (a && b) ≡ true → a ≡ true
+pub and_left : (a b : Bool) → (a && b) ≡ true → a ≡ true
 and_left true b h = refl
 and_left false b h = absurd (let e : false ≡ true = h in cc)
 
-and_right : (a b : Bool) → (a && b) ≡ true → b ≡ true
+pub and_right : (a b : Bool) → (a && b) ≡ true → b ≡ true
 and_right true b h = h
 and_right false b h = absurd (let e : false ≡ true = h in cc)
 
-not_true : (a : Bool) → not a ≡ true → a ≡ false
+pub not_true : (a : Bool) → not a ≡ true → a ≡ false
 not_true true h = absurd (let e : false ≡ true = h in cc)
 not_true false h = refl
 
@@ -47,7 +47,7 @@ none_pass test (x ∷ xs) h = by (test x) refl (none_pass test xs) h
     by false is rest h = rw is (rest h)
 
 -- one more that passes, where none did before
-one_more : {X : Type 0} (test : X → Bool) (x : X) (xs : List X) → list_any test xs ≡ false → length (filter test (x ∷ xs)) ≤ 1
+pub one_more : {X : Type 0} (test : X → Bool) (x : X) (xs : List X) → list_any test xs ≡ false → length (filter test (x ∷ xs)) ≤ 1
 one_more test x xs h = by (test x) refl
   where
     by : (b : Bool) → test x ≡ b → length (filter test (x ∷ xs)) ≤ 1
@@ -55,7 +55,7 @@ one_more test x xs h = by (test x) refl
     by false is = rw is (let e : length (filter test xs) ≡ 0 = none_pass test xs h in omega arith)
 
 -- one more that does not pass
-as_before : {X : Type 0} (test : X → Bool) (x : X) (xs : List X) → test x ≡ false → length (filter test xs) ≤ 1 → length (filter test (x ∷ xs)) ≤ 1
+pub as_before : {X : Type 0} (test : X → Bool) (x : X) (xs : List X) → test x ≡ false → length (filter test xs) ≤ 1 → length (filter test (x ∷ xs)) ≤ 1
 as_before test x xs is h = rw is h
 
 -- ---- tickets
@@ -92,7 +92,7 @@ module _ (run : Fixed) (spelling : Spelling) where
   abbrev closings : ℕ → List Event → ℕ
   closings ticket history = length (filter (λ event. closes ticket event.what) history)
 
-  unclosed : (seat ticket : ℕ) (past : List Event) → is_seats (known_of run past) seat ticket ≡ true → is_closed past ticket ≡ false
+  pub unclosed : (seat ticket : ℕ) (past : List Event) → is_seats (known_of run past) seat ticket ≡ true → is_closed past ticket ≡ false
   unclosed seat ticket past mine =
       open_unclosed past ticket (subst (λ (events : List Event). is_open events ticket ≡ true) (history_of run past) (and_left _ _ mine))
 
@@ -132,7 +132,7 @@ equal_sources (source.Goal a) (source.Goal b) h = ap source.Goal (equal_numbers 
 equal_sources (source.Row a) (source.Row b) h = ap source.Row (equal_numbers a b h)
 equal_sources _ _ h = absurd (let e : false ≡ true = h in cc)
 
-equal_ops : (a b : Op) → same_op a b ≡ true → a ≡ b
+pub equal_ops : (a b : Op) → same_op a b ≡ true → a ≡ b
 equal_ops (op.CheckConfig a) (op.CheckConfig b) h = ap op.CheckConfig (equal_subjects a b h)
 equal_ops (op.Configure a) (op.Configure b) h = ap op.Configure (equal_sources a b h)
 equal_ops (op.Check a) (op.Check b) h = ap op.Check (equal_subjects a b h)

@@ -1,5 +1,5 @@
 -- Laws of a history's definitions.
-use Rattle.std.specs.Prelude.{◌≡◌, ℕ, ◌≤◌, Bool, true, false, Some, List, ◌∷◌, filter, length}
+use Rattle.std.specs.Prelude.{◌≡◌, ℕ, ◌≤◌, ◌==◌, Bool, true, false, Some, List, ◌∷◌, filter, length}
 use Rattle.pl_state.specs.declared.goal.Goal.{Goal}
 use Rattle.pl_events.specs.declared.event.Event.{Event}
 use Rattle.pl_events.specs.declared.operation.Op.{Op}
@@ -7,8 +7,9 @@ use Rattle.pl_events.specs.declared.operation.Op.TheVariants as op
 use Rattle.pl_model.specs.Run.{Fixed, Spelling}
 use Rattle.pl_model.specs.Claims.{Decided}
 use Rattle.pl_model.specs.History.{known_of}
-use Rattle.pl_model.specs.Known.{decided_goal, goal_at, is_recorded}
+use Rattle.pl_model.specs.Known.{Asked, asked_at, decided_goal, goal_at, is_recorded}
 use Rattle.pl_model.specs.Legal.{IsLegal}
+use Rattle.pl_model.specs.Recording.{recorded_of}
 use Rattle.pl_model.specs.Tickets.{begun_of, closes, same_op}
 
 -- a goal keeps its number when the history grows
@@ -26,6 +27,12 @@ abbrev pub RecordingsStay : Type 0
 RecordingsStay = (run : Fixed) (event : Event) (past : List Event) (number : ℕ)
     → is_recorded (known_of run past) number ≡ true → is_recorded (known_of run (event ∷ past)) number ≡ true
 
+-- a told request keeps its fate and what it is about when a legal history grows
+abbrev pub RequestsStay : Type 0
+RequestsStay = (run : Fixed) (spelling : Spelling) (event : Event) (past : List Event) (n : ℕ) (asked : Asked)
+    → IsLegal run spelling (event ∷ past) → asked_at (known_of run past) n ≡ Some asked
+    → asked_at (known_of run (event ∷ past)) n ≡ Some asked
+
 -- a ticket is closed at most once in a legal history
 abbrev pub ClosedOnce : Type 0
 ClosedOnce = (run : Fixed) (spelling : Spelling) (history : List Event) (ticket : ℕ)
@@ -41,3 +48,8 @@ abbrev pub BegunOnce : Type 0
 BegunOnce = (run : Fixed) (spelling : Spelling) (history : List Event) (about : Op)
     → is_configure about ≡ false → IsLegal run spelling history
     → length (filter (λ errand. same_op errand.op about) (begun_of history)) ≤ 1
+
+-- a legal history records no goal twice
+abbrev pub RecordedOnce : Type 0
+RecordedOnce = (run : Fixed) (spelling : Spelling) (history : List Event) (number : ℕ)
+    → IsLegal run spelling history → length (filter (λ other. other == number) (recorded_of history)) ≤ 1

@@ -1,1 +1,4 @@
 pub mod Laws
+pub mod Apart
+pub mod Order
+pub mod Soundness

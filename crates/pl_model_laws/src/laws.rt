@@ -1,4 +1,4 @@
-ghost use Rattle.pl_model_laws.specs.Laws.{BegunOnce, ClosedOnce, DecisionsStay, GoalsStay, RecordingsStay};
+ghost use Rattle.pl_model_laws.specs.Laws.{BegunOnce, ClosedOnce, DecisionsStay, GoalsStay, RecordedOnce, RecordingsStay, RequestsStay};
 
 /// The law that a goal keeps its number when the history grows. It is proved and does nothing, as those below.
 pub fn goals_stay()
@@ -15,6 +15,11 @@ pub fn recordings_stay()
     ensures { RecordingsStay }
 {}
 
+/// The law that a told request keeps its fate and what it is about.
+pub fn requests_stay()
+    ensures { RequestsStay }
+{}
+
 /// The law that a ticket is closed at most once in a legal history.
 pub fn closed_once()
     ensures { ClosedOnce }
@@ -23,4 +28,9 @@ pub fn closed_once()
 /// The law that a legal history begins no operation twice, but that each lane of a provider is configured.
 pub fn begun_once()
     ensures { BegunOnce }
+{}
+
+/// The law that a legal history records no goal twice.
+pub fn recorded_once()
+    ensures { RecordedOnce }
 {}

@@ -1,7 +1,19 @@
 //! What the definitions of a history come to: laws that show that they say what is meant.
 #![tactic(auto)]
 
+mod apart;
 mod laws;
+mod order;
+mod soundness;
 
-pub use laws::{begun_once, closed_once, decisions_stay, goals_stay, recordings_stay};
+pub use apart::{goals_apart, states_apart};
+pub use laws::{
+    begun_once, closed_once, decisions_stay, goals_stay, recorded_once, recordings_stay,
+    requests_stay,
+};
+pub use order::{
+    deleted_after_dependents, gone_after_dependents, recorded_after_references,
+    sent_after_references,
+};
 pub use pl_model;
+pub use soundness::states_sound;

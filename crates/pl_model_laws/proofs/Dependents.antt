@@ -1,0 +1,196 @@
+-- A row goes only once the later rows that refer to it are gone.
+use Rattle.std.proofs.Common.{◌≡◌, ℕ, zero, suc, ◌+◌, ◌<◌, ◌≤◌, ◌==◌, Bool, true, false, not, ◌&&◌, ◌||◌, cond, List, [], ◌∷◌, length, Option, Some, None, refl, sym, ◌∙◌, ap, subst, inl, inr, ◌⊎◌, arith, find, nat_lt, eq-or-lt_of_le}
+use Rattle.std.proofs.lemmas.Bool.Decides.{nat_tests}
+use Rattle.std.specs.List.{cons_option, list_any, range_with_len}
+use Rattle.pl_state.specs.Chain.{refers_to}
+use Rattle.pl_events.specs.declared.event.Event.{Event}
+use Rattle.pl_events.specs.declared.event.What.{What}
+use Rattle.pl_events.specs.declared.event.What.TheVariants.{Answered, Begun, Dropped}
+use Rattle.pl_events.specs.declared.operation.Op.{Op}
+use Rattle.pl_events.specs.declared.operation.Op.TheVariants as op
+use Rattle.pl_events.specs.declared.operation.Subject.TheVariants as subject
+use Rattle.pl_events.specs.declared.reply.Reply.{Reply}
+use Rattle.pl_model.specs.Run.{Fixed, Spelling, is_preview, rows_of}
+use Rattle.pl_model.specs.Due.{is_delete_ready, is_drop_ready, is_due, is_due_on, is_lane_of, is_ready, is_ready_on, is_removable, is_wanted_op, passes_limit, to_drop, to_send}
+use Rattle.pl_model.specs.History.{known_of}
+use Rattle.pl_model.specs.Known.{Known, has_problem}
+use Rattle.pl_model.specs.Legal.{IsLegal, MayHappen}
+use Rattle.pl_model.specs.Recording.{has_number, is_removed, only_if, removed_by, removed_of, row_of_delete}
+use Rattle.pl_model.specs.Rows.{has_dependents, is_doomed, is_left, is_taken_over}
+use Rattle.pl_model.specs.Tickets.{Errand, begun_of, errand_at, same_op, was_begun}
+use Rattle.pl_model_laws.proofs.Growing.{equal_numbers, or_true, run_of}
+use Rattle.pl_model_laws.proofs.Leaving.{left-before, left_parts}
+use Rattle.pl_model_laws.proofs.Once.{and_left, and_right, equal_ops, not_true}
+
+-- a number within a range is found there
+number_within : (test : ℕ → Bool) (a n k : ℕ) → a ≤ k → k < a + n → test k ≡ true → list_any test (range_with_len a n) ≡ true
+number_within test a zero k low high h = absurd (omega arith)
+number_within test a (suc n) k low high h =
+    by (eq-or-lt_of_le low) (λ later. number_within test (a + 1) n k (omega arith) (omega arith) h)
+  where
+    by : (a ≡ k) ⊎ (a < k) → (a < k → list_any test (range_with_len (a + 1) n) ≡ true)
+        → (test a || list_any test (range_with_len (a + 1) n)) ≡ true
+    by (inl is) rest = ap (λ (b : Bool). b || list_any test (range_with_len (a + 1) n)) (ap (λ (j : ℕ). test j) is ∙ h)
+    by (inr later) rest = ap (λ (b : Bool). test a || b) (rest later) ∙ or_true (test a)
+
+-- what is found and passes a second test shows that some pass it
+found_passes : {X : Type 0} (test other : X → Bool) (xs : List X) (x : X) → find test xs ≡ Some x
+    → other x ≡ true → list_any other xs ≡ true
+found_passes test other [] x h passes = absurd (let e : None ≡ Some x = h in cc)
+found_passes {X = X} test other (first ∷ xs) x h passes = by (test first) (found_passes test other xs x) h
+  where
+    by : (b : Bool) → (find test xs ≡ Some x → other x ≡ true → list_any other xs ≡ true)
+        → cond b (Some first) (find test xs) ≡ Some x → (other first || list_any other xs) ≡ true
+    by true rest h =
+        let e : Some first ≡ Some x = h in
+        let same : first ≡ x = cc in
+        ap (λ (one : X). other one || list_any other xs) same ∙ ap (λ (b : Bool). b || list_any other xs) passes
+    by false rest h = ap (λ (b : Bool). other first || b) (rest h passes) ∙ or_true (other first)
+
+-- a place below a count, as a range has it
+below_length : (row count : ℕ) → nat_lt row count ≡ true → row < 0 + count
+below_length row count h = grind (arith, nat_tests)
+
+-- ---- what has a later row that is left
+
+module _ (known : Known) (later earlier : ℕ) (refers : refers_to (rows_of known.run) later earlier ≡ true)
+    (left : is_left known later ≡ true) where
+  -- it is left among the rows, and refers to this one
+  depended : has_dependents known earlier ≡ true
+  depended =
+      let below : nat_lt later (length (rows_of known.run)) ≡ true =
+      (left_parts (nat_lt later (length (rows_of known.run))) (has_number (removed_of known.history) later)
+      (is_taken_over known later) left).0 in
+      number_within (λ (row : ℕ). refers_to (rows_of known.run) row earlier && is_left known row) 0
+      (length (rows_of known.run)) later (omega arith) (below_length later (length (rows_of known.run)) below)
+      (ap (λ (b : Bool). b && is_left known later) refers ∙ left)
+
+  -- so this one cannot be taken out
+  not_removable : is_removable known earlier ≡ true → ⊥
+  not_removable h =
+      let none : has_dependents known earlier ≡ false =
+      not_true (has_dependents known earlier)
+      (and_right (is_doomed known earlier) _ (and_left _ (not (is_preview known.run.mode)) h)) in
+      let e : true ≡ false = sym depended ∙ none in
+      cc
+
+  -- nor dropped
+  not_dropped : is_due known (to_drop earlier) ≡ true → ⊥
+  not_dropped h =
+      let ready : is_drop_ready known earlier ≡ true =
+      and_right (not (has_problem known)) (is_drop_ready known earlier)
+      (and_left (is_ready known (to_drop earlier)) (not (passes_limit known (to_drop earlier))) h) in
+      not_removable (and_left (is_removable known earlier) _ ready)
+
+  -- nor deleted
+  not_deleted : (lane : ℕ) → is_due_on known (op.Delete (subject.Row earlier)) lane ≡ true → ⊥
+  not_deleted lane h =
+      let ready : is_ready_on known (op.Delete (subject.Row earlier)) lane ≡ true =
+      and_left (is_ready_on known (op.Delete (subject.Row earlier)) lane)
+      (not (passes_limit known (to_send (op.Delete (subject.Row earlier))))) h in
+      let wanted : is_wanted_op known (op.Delete (subject.Row earlier)) ≡ true =
+      and_right (not (has_problem known)) _ (and_left _ (is_lane_of known (op.Delete (subject.Row earlier)) lane) ready) in
+      let asked : is_delete_ready known earlier ≡ true =
+      and_right (not (was_begun known.history (op.Delete (subject.Row earlier)))) _ wanted in
+      not_removable (and_left (is_removable known earlier) _ asked)
+
+-- ---- the laws
+
+module _ (run : Fixed) (spelling : Spelling) (later earlier : ℕ) (refers : refers_to (rows_of run) later earlier ≡ true) where
+  abbrev deletes : Op
+  deletes = op.Delete (subject.Row earlier)
+
+  -- the reference stands in what each history tells
+  refers_in : (past : List Event) → refers_to (rows_of (known_of run past).run) later earlier ≡ true
+  refers_in past = subst (λ (fixed : Fixed). refers_to (rows_of fixed) later earlier ≡ true) (sym (run_of run past)) refers
+
+  -- an operation that is due is not the deletion
+  began : (ticket seat lane : ℕ) (about : Op) (past : List Event) → is_left (known_of run past) later ≡ true
+      → is_due_on (known_of run past) about lane ≡ true → was_begun past deletes ≡ false
+      → was_begun (record { seat = seat; what = Begun ticket lane about } ∷ past) deletes ≡ false
+  began ticket seat lane about past left due never = by (same_op about deletes) refl
+    where
+      by : (b : Bool) → same_op about deletes ≡ b → (same_op about deletes || was_begun past deletes) ≡ false
+      by true is = absurd (not_deleted (known_of run past) later earlier (refers_in past) left lane
+          (subst (λ (it : Op). is_due_on (known_of run past) it lane ≡ true) (equal_ops about deletes is) due))
+      by false is = ap (λ (b : Bool). b || was_begun past deletes) is ∙ never
+
+  -- no event begins the deletion
+  begun_step : (seat : ℕ) (what : What) (past : List Event) → is_left (known_of run past) later ≡ true
+      → MayHappen spelling (known_of run past) seat what → was_begun past deletes ≡ false
+      → was_begun (record { seat = seat; what = what } ∷ past) deletes ≡ false
+  begun_step seat (Begun ticket lane about) past left may never = began ticket seat lane about past left may.due never
+  begun_step seat _ past left may never = never
+
+  -- no deletion is begun while a later row that refers to the row is left
+  pub deleted_last : (history : List Event) → IsLegal run spelling history → is_left (known_of run history) later ≡ true
+      → was_begun history deletes ≡ false
+  deleted_last [] legal left = refl
+  deleted_last (event ∷ past) legal left =
+      let before : is_left (known_of run past) later ≡ true = left-before run event past later left in
+      begun_step event.seat event.what past before legal.1 (deleted_last past legal.0 before)
+
+  -- an operation other than the deletion takes out another row, or none
+  removed_op : (about : Op) (b : Bool) (rows : List ℕ) → same_op about deletes ≡ false → has_number rows earlier ≡ false
+      → has_number (cons_option (only_if b (row_of_delete about)) rows) earlier ≡ false
+  removed_op about false rows apart stays = stays
+  removed_op (op.Delete (subject.Row row)) true rows apart stays = ap (λ (b : Bool). b || has_number rows earlier) apart ∙ stays
+  removed_op (op.Delete (subject.Goal goal)) true rows apart stays = stays
+  removed_op (op.Delete (subject.Pending at)) true rows apart stays = stays
+  removed_op (op.CheckConfig about) true rows apart stays = stays
+  removed_op (op.Configure provider) true rows apart stays = stays
+  removed_op (op.Check about) true rows apart stays = stays
+  removed_op (op.Diff about) true rows apart stays = stays
+  removed_op (op.Create about) true rows apart stays = stays
+  removed_op (op.Update about) true rows apart stays = stays
+  removed_op (op.Read about) true rows apart stays = stays
+  removed_op (op.Invoke n) true rows apart stays = stays
+
+  -- a reply takes the row out only where its deletion was begun
+  replied : (seat ticket : ℕ) (reply : Reply) (past : List Event) → was_begun past deletes ≡ false
+      → has_number (removed_of past) earlier ≡ false
+      → has_number (removed_of (record { seat = seat; what = Answered ticket reply } ∷ past)) earlier ≡ false
+  replied seat ticket reply past never stays = by (errand_at past ticket) refl
+    where
+      apart : (errand : Errand) → errand_at past ticket ≡ Some errand → (b : Bool) → same_op errand.op deletes ≡ b → b ≡ false
+      apart errand is true same =
+          let begun : was_begun past deletes ≡ true =
+          found_passes (λ (one : Errand). one.ticket == ticket) (λ (one : Errand). same_op one.op deletes)
+          (begun_of past) errand is same in
+          sym begun ∙ never
+      apart errand is false same = refl
+
+      by : (o : Option Errand) → errand_at past ticket ≡ o
+          → has_number (cons_option (removed_by past (Answered ticket reply)) (removed_of past)) earlier ≡ false
+      by None is = rw is stays
+      by (Some errand) is =
+          rw is (removed_op errand.op (is_removed reply) (removed_of past)
+          (apart errand is (same_op errand.op deletes) refl) stays)
+
+  -- a row that is dropped is another one
+  dropped : (seat row : ℕ) (past : List Event) → is_left (known_of run past) later ≡ true
+      → is_due (known_of run past) (to_drop row) ≡ true → has_number (removed_of past) earlier ≡ false
+      → has_number (removed_of (record { seat = seat; what = Dropped row } ∷ past)) earlier ≡ false
+  dropped seat row past left due stays = by (row == earlier) refl
+    where
+      by : (b : Bool) → (row == earlier) ≡ b → ((row == earlier) || has_number (removed_of past) earlier) ≡ false
+      by true is = absurd (not_dropped (known_of run past) later earlier (refers_in past) left
+          (subst (λ (number : ℕ). is_due (known_of run past) (to_drop number) ≡ true) (equal_numbers row earlier is) due))
+      by false is = ap (λ (b : Bool). b || has_number (removed_of past) earlier) is ∙ stays
+
+  -- no event takes the row out
+  gone_step : (seat : ℕ) (what : What) (past : List Event) → is_left (known_of run past) later ≡ true
+      → MayHappen spelling (known_of run past) seat what → was_begun past deletes ≡ false
+      → has_number (removed_of past) earlier ≡ false
+      → has_number (removed_of (record { seat = seat; what = what } ∷ past)) earlier ≡ false
+  gone_step seat (Answered ticket reply) past left may never stays = replied seat ticket reply past never stays
+  gone_step seat (Dropped row) past left may never stays = dropped seat row past left may stays
+  gone_step seat _ past left may never stays = stays
+
+  -- no row is taken out while a later row that refers to it is left
+  pub gone_last : (history : List Event) → IsLegal run spelling history → is_left (known_of run history) later ≡ true
+      → has_number (removed_of history) earlier ≡ false
+  gone_last [] legal left = refl
+  gone_last (event ∷ past) legal left =
+      let before : is_left (known_of run past) later ≡ true = left-before run event past later left in
+      gone_step event.seat event.what past before legal.1 (deleted_last past legal.0 before) (gone_last past legal.0 before)

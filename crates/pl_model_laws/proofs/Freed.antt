@@ -1,0 +1,171 @@
+-- From its first operation or its keep on, a goal's URN is its own among the rows that are to stay.
+use Rattle.std.proofs.Common.{◌≡◌, ◌≢◌, ℕ, zero, suc, ◌+◌, ◌<◌, ◌≤◌, ◌==◌, Bool, true, false, not, ◌&&◌, ◌||◌, List, [], ◌∷◌, length, nat_lt, slice_get, Option, Some, None, is_none, is_some, refl, sym, ◌∙◌, ap, subst, inl, inr, ◌⊎◌, arith, eq-or-lt_of_le}
+use Rattle.std.proofs.lemmas.Bool.Decides.{nat_tests}
+use Rattle.std.proofs.lemmas.Slice.Eq.{bytes_eq-Decides}
+use Rattle.std.specs.List.{cons_option, list_any, range_with_len}
+use Rattle.pl_state.specs.Chain.{some_passes}
+use Rattle.pl_state.specs.declared.entry.Entry.{Entry}
+use Rattle.pl_state.specs.declared.goal.Goal.{Goal}
+use Rattle.pl_events.specs.declared.event.Event.{Event}
+use Rattle.pl_events.specs.declared.event.What.{What}
+use Rattle.pl_events.specs.declared.event.What.TheVariants.{Answered, Begun, Kept}
+use Rattle.pl_events.specs.declared.operation.Op.{Op}
+use Rattle.pl_model.specs.Run.{Fixed, Spelling, is_preview, rows_of}
+use Rattle.pl_model.specs.Claims.{Decided, is_row}
+use Rattle.pl_model.specs.Decisions.{is_refused}
+use Rattle.pl_model.specs.Due.{holds_urn, is_due, is_due_on, is_placed, is_ready_on, keeps_goal, op_of_goal, passes_limit, provider_stands, references_recorded, sends_goal, to_keep, to_send, urn_is_free, way_is_free}
+use Rattle.pl_model.specs.History.{known_of}
+use Rattle.pl_model.specs.Known.{Known, decided_goal, goal_at, has_problem, is_recorded}
+use Rattle.pl_model.specs.Legal.{IsLegal, MayHappen}
+use Rattle.pl_model.specs.Recording.{goal_of_op, has_number, recorded_by, recorded_of}
+use Rattle.pl_model.specs.Rows.{is_left, is_marked, row_at, row_numbers}
+use Rattle.pl_model.specs.Tickets.{Errand, begun_of, errand_by, same_op, was_begun}
+use Rattle.pl_model_laws.specs.Apart.{KeepsApart}
+use Rattle.pl_model_laws.proofs.Growing.{decisions-stay, equal_numbers, goals-stay, run_of}
+use Rattle.pl_model_laws.proofs.Once.{and_left, and_right, equal_ops, not_true}
+use Rattle.pl_model_laws.proofs.Leaving.{left-before, left_parts, unmarked-before, unmarked-urn}
+use Rattle.pl_model_laws.proofs.Recorded.{found, ready_sends, recorded-held}
+use Rattle.pl_model_laws.proofs.Staying.{answered_errand, errand_sent, sent_begun, some_same}
+
+-- no row that is to stay has the goal's URN, but the row that the goal claims
+pub record IsFree (run : Fixed) (history : List Event) (number : ℕ) : Type 0 where
+  pub goal : Goal
+  pub one : Decided
+  pub stands : goal_at (known_of run history) number ≡ Some goal
+  pub decided : decided_goal (known_of run history) number ≡ Some one
+  pub none : (row : ℕ) (entry : Entry) → slice_get (rows_of run) row ≡ Some entry
+      → is_left (known_of run history) row ≡ true → is_marked (known_of run history) row ≡ false
+      → is_row one.claim row ≡ false → entry.urn ≢ goal.urn
+
+pub free-stays : (run : Fixed) (event : Event) (past : List Event) (number : ℕ) → IsFree run past number → IsFree run (event ∷ past) number
+free-stays run event past number h = record {
+  goal = h.goal;
+  one = h.one;
+  stands = goals-stay run event past number h.goal h.stands;
+  decided = decisions-stay run event past number h.one h.decided;
+  none = λ row entry is left unmarked other. h.none row entry is (left-before run event past row left) (unmarked-before run event past row unmarked) other;
+}
+
+-- a number of a range does not pass a test that none of them passes
+range_lacks : (p : ℕ → Bool) (a n k : ℕ) → a ≤ k → k < a + n → list_any p (range_with_len a n) ≡ false → p k ≡ false
+range_lacks p a zero k low high h = absurd (omega arith)
+range_lacks p a (suc n) k low high h = by (p a) refl h (eq-or-lt_of_le low)
+    (λ later none. range_lacks p (a + 1) n k (omega arith) (omega arith) none)
+  where
+    by : (b : Bool) → p a ≡ b → (b || list_any p (range_with_len (a + 1) n)) ≡ false → (a ≡ k) ⊎ (a < k)
+        → (a < k → list_any p (range_with_len (a + 1) n) ≡ false → p k ≡ false) → p k ≡ false
+    by true is none at rest = absurd (let e : true ≡ false = none in cc)
+    by false is none (inl same) rest = subst (λ (j : ℕ). p j ≡ false) same is
+    by false is none (inr later) rest = rest later none
+
+some_there : {X : Type 0} (o : Option X) → is_some o ≡ true → (x : X) × (o ≡ Some x)
+some_there (Some x) h = (x, refl)
+some_there None h = absurd (let e : false ≡ true = h in cc)
+
+module _ (run : Fixed) (spelling : Spelling) (real : is_preview run.mode ≡ false) (apart : KeepsApart (rows_of run)) where
+  module _ (history : List Event) (legal : IsLegal run spelling history) where
+    abbrev known : Known
+    known = known_of run history
+
+    all_decided : (m : ℕ) → is_recorded known m ≡ true → is_some (decided_goal known m) ≡ true
+    all_decided m h = let there = recorded-held run spelling history m legal h in ap (λ (o : Option Decided). is_some o) there.2.decided
+
+    -- where the wait for a free URN is over, it is free
+    free_here : (number : ℕ) (goal : Goal) (one : Decided) → goal_at known number ≡ Some goal → decided_goal known number ≡ Some one
+        → is_placed known number goal one ≡ true → IsFree run history number
+    free_here number goal one stands decided placed = record {
+      goal = goal;
+      one = one;
+      stands = stands;
+      decided = decided;
+      none = λ row entry is left unmarked other same.
+          let free : urn_is_free known goal one ≡ true = urn_free in
+          let none : list_any (holds_urn known goal one) (row_numbers known) ≡ false = not_true (list_any (holds_urn known goal one) (row_numbers known)) free in
+          let below = (left_parts (nat_lt row (length (rows_of known.run))) _ _ left).0 in
+          let lacks : holds_urn known goal one row ≡ false =
+          range_lacks (holds_urn known goal one) 0 (length (rows_of known.run)) row (omega arith) (grind (arith, nat_tests)) none in
+          let at : row_at known row ≡ Some entry = ap (λ (fixed : Fixed). slice_get (rows_of fixed) row) (run_of run history) ∙ is in
+          let now = unmarked-urn run history row entry apart all_decided at left unmarked in
+          let holds : holds_urn known goal one row ≡ true =
+          rw left (rw unmarked (rw other (rw now.1 ((bytes_eq-Decides now.0.urn goal.urn).1 (now.2 ∙ same))))) in
+          absurd (let e : true ≡ false = sym holds ∙ lacks in cc);
+    }
+      where
+        urn_free : urn_is_free known goal one ≡ true
+        urn_free =
+            let waits : (is_preview known.run.mode || urn_is_free known goal one) ≡ true =
+            and_right (not (is_refused one.decision) && not (is_recorded known number) && references_recorded known goal) _ placed in
+            let live : is_preview known.run.mode ≡ false = ap (λ (fixed : Fixed). is_preview fixed.mode) (run_of run history) ∙ real in
+            subst (λ (b : Bool). (b || urn_is_free known goal one) ≡ true) live waits
+
+    free_kept : (number : ℕ) → is_due known (to_keep number) ≡ true → IsFree run history number
+    free_kept number due =
+        let it = found known number (keeps_goal known number)
+        (and_right (not (has_problem known)) _ (and_left _ (not (passes_limit known (to_keep number))) due)) in
+        free_here number it.0 it.1 it.2 it.3
+        (and_left _ (is_none (op_of_goal known number it.0 it.1)) (and_left _ (provider_stands known number it.0) it.4))
+
+    free_sent : (about : Op) (number lane : ℕ) → goal_of_op about ≡ Some number → is_due_on known about lane ≡ true → IsFree run history number
+    free_sent about number lane on due =
+        let it = found known number (sends_goal known number about)
+        (ready_sends known number about lane on (and_left (is_ready_on known about lane) (not (passes_limit known (to_send about))) due)) in
+        free_here number it.0 it.1 it.2 it.3
+        (and_left _ (some_passes (same_op about) (op_of_goal known number it.0 it.1)) (and_left _ (way_is_free known it.1) it.4))
+
+  begun_due : (past : List Event) (seat : ℕ) (what : What) (errand : Errand) → MayHappen spelling (known_of run past) seat what
+      → errand_by seat what ≡ Some errand → is_due_on (known_of run past) errand.op errand.lane ≡ true
+  begun_due past seat (Begun ticket lane about) errand may h =
+      subst (λ (one : Errand). is_due_on (known_of run past) one.op one.lane ≡ true)
+      (some_same (record { ticket = ticket; seat = seat; lane = lane; op = about }) errand h) may.due
+  begun_due past seat _ errand may h = absurd (let e : None ≡ Some errand = h in cc)
+
+  -- an operation on a goal was begun
+  pub free-begun : (history : List Event) (about : Op) (number : ℕ) → IsLegal run spelling history
+      → was_begun history about ≡ true → goal_of_op about ≡ Some number → IsFree run history number
+  free-begun [] about number legal begun on = absurd (let e : false ≡ true = begun in cc)
+  free-begun (event ∷ past) about number legal begun on =
+      free-stays run event past number (by (errand_by event.seat event.what) refl begun (λ old. free-begun past about number legal.0 old on))
+    where
+      new : (errand : Errand) → errand_by event.seat event.what ≡ Some errand → (b : Bool) → same_op errand.op about ≡ b
+          → (b || was_begun past about) ≡ true → (was_begun past about ≡ true → IsFree run past number) → IsFree run past number
+      new errand is true at h old =
+          free_sent past legal.0 about number errand.lane on
+          (subst (λ (one : Op). is_due_on (known_of run past) one errand.lane ≡ true) (equal_ops errand.op about at)
+          (begun_due past event.seat event.what errand legal.1 is))
+      new errand is false at h old = old h
+
+      by : (o : Option Errand) → errand_by event.seat event.what ≡ o
+          → list_any (λ errand. same_op errand.op about) (cons_option o (begun_of past)) ≡ true
+          → (was_begun past about ≡ true → IsFree run past number) → IsFree run past number
+      by None is h old = old h
+      by (Some errand) is h old = new errand is (same_op errand.op about) refl h old
+
+  -- what an event records has its URN free before
+  recording_free : (past : List Event) (seat : ℕ) (what : What) (number : ℕ) → IsLegal run spelling past
+      → MayHappen spelling (known_of run past) seat what → recorded_by past what ≡ Some number → IsFree run past number
+  recording_free past seat (Kept kept fresh) number legal may h =
+      subst (λ (n : ℕ). IsFree run past n) (some_same kept number h) (free_kept past legal kept may.due)
+  recording_free past seat (Answered ticket reply) number legal may h =
+      let answered = answered_errand past ticket reply number h in
+      free-begun past answered.0.op number legal
+      (sent_begun past ticket answered.0.op (errand_sent past ticket answered.0 answered.1)) answered.2
+  recording_free past seat _ number legal may h = absurd (let e : None ≡ Some number = h in cc)
+
+  -- a goal was recorded
+  pub free-recorded : (history : List Event) (number : ℕ) → IsLegal run spelling history
+      → has_number (recorded_of history) number ≡ true → IsFree run history number
+  free-recorded [] number legal h = absurd (let e : false ≡ true = h in cc)
+  free-recorded (event ∷ past) number legal h =
+      free-stays run event past number (by (recorded_by past event.what) refl h (λ old. free-recorded past number legal.0 old))
+    where
+      new : (other : ℕ) → recorded_by past event.what ≡ Some other → (b : Bool) → (other == number) ≡ b
+          → (b || has_number (recorded_of past) number) ≡ true → (has_number (recorded_of past) number ≡ true → IsFree run past number)
+          → IsFree run past number
+      new other is true at h old =
+          subst (λ (n : ℕ). IsFree run past n) (equal_numbers other number at) (recording_free past event.seat event.what other legal.0 legal.1 is)
+      new other is false at h old = old h
+
+      by : (o : Option ℕ) → recorded_by past event.what ≡ o → has_number (cons_option o (recorded_of past)) number ≡ true
+          → (has_number (recorded_of past) number ≡ true → IsFree run past number) → IsFree run past number
+      by None is h old = old h
+      by (Some other) is h old = new other is (other == number) refl h old

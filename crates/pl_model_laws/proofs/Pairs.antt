@@ -1,0 +1,153 @@
+-- Lists of which each two elements stand in a relation.
+use Rattle.std.proofs.Common.{◌≡◌, ◌≢◌, ℕ, zero, suc, ◌+◌, ◌<◌, ◌≤◌, ◌==◌, Bool, true, false, cond, List, [], ◌∷◌, ◌++◌, All, AllPairs, filter, filter_map, length, reverse, Option, Some, None, refl, sym, ◌∙◌, subst, arith}
+use Rattle.std.proofs.lemmas.Bool.Decides.{nat_tests}
+use Rattle.std.proofs.lemmas.List.{reverse-append}
+use Rattle.std.proofs.lemmas.List.Kept.{AllPairs-cons}
+use Rattle.std.specs.List.{cons_option, range_with_len, slice_index_or}
+
+-- each of the list has a property
+abbrev pub Each : {X : Type 0} → (X → Type 0) → List X → Type 0
+Each P [] = Unit
+Each P (x ∷ xs) = P x × Each P xs
+
+-- each stands in the relation to every one after it
+abbrev pub Pairwise : {X : Type 0} → (X → X → Type 0) → List X → Type 0
+Pairwise R [] = Unit
+Pairwise R (x ∷ xs) = Each (R x) xs × Pairwise R xs
+
+pub each-weaker : {X : Type 0} (P Q : X → Type 0) → ((x : X) → P x → Q x) → (xs : List X) → Each P xs → Each Q xs
+each-weaker P Q f [] h = tt
+each-weaker P Q f (x ∷ xs) h = (f x h.0, each-weaker P Q f xs h.1)
+
+pub each-append : {X : Type 0} (P : X → Type 0) (xs ys : List X) → Each P xs → Each P ys → Each P (xs ++ ys)
+each-append P [] ys h k = k
+each-append P (x ∷ xs) ys h k = (h.0, each-append P xs ys h.1 k)
+
+pub each-reverse : {X : Type 0} (P : X → Type 0) (xs : List X) → Each P xs → Each P (reverse xs)
+each-reverse P [] h = tt
+each-reverse P (x ∷ xs) h =
+    subst (λ ys. Each P ys) (sym (reverse-append (x ∷ []) xs)) (each-append P (reverse xs) (x ∷ []) (each-reverse P xs h.1) (h.0, tt))
+
+pub each-mapped : {X Y : Type 0} (f : X → Option Y) (P : Y → Type 0) (xs : List X)
+    → Each (λ x. (y : Y) → f x ≡ Some y → P y) xs → Each P (filter_map f xs)
+each-mapped f P [] h = tt
+each-mapped {X} {Y} f P (x ∷ xs) h = by (f x) refl (each-mapped f P xs h.1)
+  where
+    by : (o : Option Y) → f x ≡ o → Each P (filter_map f xs) → Each P (cons_option o (filter_map f xs))
+    by None is rest = rest
+    by (Some y) is rest = (h.0 y is, rest)
+
+pub each-filter : {X : Type 0} (P : X → Type 0) (p : X → Bool) (xs : List X) → Each P xs → Each P (filter p xs)
+each-filter P p [] h = tt
+each-filter {X} P p (x ∷ xs) h = by (p x) refl (each-filter P p xs h.1)
+  where
+    by : (b : Bool) → p x ≡ b → Each P (filter p xs) → Each P (filter p (x ∷ xs))
+    by true is rest = rw is (h.0, rest)
+    by false is rest = rw is rest
+
+-- what a filter leaves passes its test
+pub each-passes : {X : Type 0} (p : X → Bool) (xs : List X) → Each (λ x. p x ≡ true) (filter p xs)
+each-passes p [] = tt
+each-passes {X} p (x ∷ xs) = by (p x) refl (each-passes p xs)
+  where
+    by : (b : Bool) → p x ≡ b → Each (λ y. p y ≡ true) (filter p xs) → Each (λ y. p y ≡ true) (filter p (x ∷ xs))
+    by true is rest = rw is (is, rest)
+    by false is rest = rw is rest
+
+each-all : {X : Type 0} (P : X → Type 0) (xs : List X) → Each P xs → All P xs
+each-all P [] h = λ k d low. absurd (omega arith)
+each-all {X} P (x ∷ xs) h = λ k d low. at k d low (each-all P xs h.1)
+  where
+    at : (k : ℕ) (d : X) → k < length (x ∷ xs) → All P xs → P (slice_index_or (x ∷ xs) k d)
+    at zero d low rest = h.0
+    at (suc k) d low rest = rest k d (omega arith)
+
+-- ---- pairs
+
+pub pairs-all : {X : Type 0} (R : X → X → Type 0) (xs : List X) → Pairwise R xs → AllPairs R xs
+pairs-all R [] h = λ i j d before low. absurd (omega arith)
+pairs-all R (x ∷ xs) h = AllPairs-cons R x xs (each-all (R x) xs h.0) (pairs-all R xs h.1)
+
+pub pairs-weaker : {X : Type 0} (R S : X → X → Type 0) → ((x y : X) → R x y → S x y) → (xs : List X) → Pairwise R xs → Pairwise S xs
+pairs-weaker R S f [] h = tt
+pairs-weaker R S f (x ∷ xs) h = (each-weaker (R x) (S x) (f x) xs h.0, pairs-weaker R S f xs h.1)
+
+-- where each also has a property
+pub pairs-with : {X : Type 0} (R S : X → X → Type 0) (P : X → Type 0) → ((x y : X) → P x → P y → R x y → S x y)
+    → (xs : List X) → Each P xs → Pairwise R xs → Pairwise S xs
+pairs-with R S P f [] k h = tt
+pairs-with {X} R S P f (x ∷ xs) k h = (both xs k.1 h.0, pairs-with R S P f xs k.1 h.1)
+  where
+    both : (ys : List X) → Each P ys → Each (R x) ys → Each (S x) ys
+    both [] p r = tt
+    both (y ∷ ys) p r = (f x y k.0 p.0 r.0, both ys p.1 r.1)
+
+pub pairs-append : {X : Type 0} (R : X → X → Type 0) (xs ys : List X) → Pairwise R xs → Pairwise R ys
+    → Each (λ x. Each (R x) ys) xs → Pairwise R (xs ++ ys)
+pairs-append R [] ys h k cross = k
+pairs-append R (x ∷ xs) ys h k cross = (each-append (R x) xs ys h.0 cross.0, pairs-append R xs ys h.1 k cross.1)
+
+pub pairs-reverse : {X : Type 0} (R : X → X → Type 0) → ((x y : X) → R x y → R y x) → (xs : List X) → Pairwise R xs → Pairwise R (reverse xs)
+pairs-reverse R turn [] h = tt
+pairs-reverse R turn (x ∷ xs) h =
+    subst (λ ys. Pairwise R ys) (sym (reverse-append (x ∷ []) xs))
+    (pairs-append R (reverse xs) (x ∷ []) (pairs-reverse R turn xs h.1) (tt, tt)
+    (each-weaker (R x) (λ y. Each (R y) (x ∷ [])) (λ y r. (turn x y r, tt)) (reverse xs) (each-reverse (R x) xs h.0)))
+
+pub pairs-filter : {X : Type 0} (R : X → X → Type 0) (p : X → Bool) (xs : List X) → Pairwise R xs → Pairwise R (filter p xs)
+pairs-filter R p [] h = tt
+pairs-filter {X} R p (x ∷ xs) h = by (p x) refl (pairs-filter R p xs h.1)
+  where
+    by : (b : Bool) → p x ≡ b → Pairwise R (filter p xs) → Pairwise R (filter p (x ∷ xs))
+    by true is rest = rw is (each-filter (R x) p xs h.0, rest)
+    by false is rest = rw is rest
+
+pub pairs-mapped : {X Y : Type 0} (f : X → Option Y) (R : Y → Y → Type 0) (xs : List X)
+    → Pairwise (λ a b. (y z : Y) → f a ≡ Some y → f b ≡ Some z → R y z) xs → Pairwise R (filter_map f xs)
+pairs-mapped f R [] h = tt
+pairs-mapped {X} {Y} f R (x ∷ xs) h = by (f x) refl (pairs-mapped f R xs h.1)
+  where
+    by : (o : Option Y) → f x ≡ o → Pairwise R (filter_map f xs) → Pairwise R (cons_option o (filter_map f xs))
+    by None is rest = rest
+    by (Some y) is rest =
+        (each-mapped f (R y) xs (each-weaker _ (λ a. (z : Y) → f a ≡ Some z → R y z) (λ a at z found. at y z is found) xs h.0), rest)
+
+-- ---- numbers
+
+-- the numbers of a range are above its beginning
+range_above : (a n : ℕ) → Each (λ k. a ≤ k) (range_with_len a n)
+range_above a zero = tt
+range_above a (suc n) = (omega arith, each-weaker (λ k. a + 1 ≤ k) (λ k. a ≤ k) (λ k low. omega arith) (range_with_len (a + 1) n) (range_above (a + 1) n))
+
+-- the numbers of a range rise
+pub range_rises : (a n : ℕ) → Pairwise (λ k l. k < l) (range_with_len a n)
+range_rises a zero = tt
+range_rises a (suc n) =
+    (each-weaker (λ k. a + 1 ≤ k) (λ k. a < k) (λ k low. omega arith) (range_with_len (a + 1) n) (range_above (a + 1) n), range_rises (a + 1) n)
+
+-- where every number stands once, no two are the same
+pub once_apart : (xs : List ℕ) → ((n : ℕ) → length (filter (λ other. other == n) xs) ≤ 1) → Pairwise (λ k l. k ≢ l) xs
+once_apart [] h = tt
+once_apart (x ∷ xs) h = (others xs (none (h x)), once_apart xs (λ n. fewer n (x == n) refl (h n)))
+  where
+    none : length (filter (λ other. other == x) (x ∷ xs)) ≤ 1 → length (filter (λ other. other == x) xs) ≡ 0
+    none one = let here : (x == x) ≡ true = grind (arith, nat_tests) in
+        let counted : length (x ∷ filter (λ other. other == x) xs) ≤ 1 = subst (λ (b : Bool). length (cond b (x ∷ filter (λ other. other == x) xs) (filter (λ other. other == x) xs)) ≤ 1) here one in
+        omega arith
+
+    fewer : (n : ℕ) (b : Bool) → (x == n) ≡ b → length (filter (λ other. other == n) (x ∷ xs)) ≤ 1 → length (filter (λ other. other == n) xs) ≤ 1
+    fewer n true is one = let counted : length (x ∷ filter (λ other. other == n) xs) ≤ 1 = subst (λ (b : Bool). length (cond b (x ∷ filter (λ other. other == n) xs) (filter (λ other. other == n) xs)) ≤ 1) is one in
+        omega arith
+    fewer n false is one = subst (λ (b : Bool). length (cond b (x ∷ filter (λ other. other == n) xs) (filter (λ other. other == n) xs)) ≤ 1) is one
+
+    others : (ys : List ℕ) → length (filter (λ other. other == x) ys) ≡ 0 → Each (λ y. x ≢ y) ys
+    others [] zero_left = tt
+    others (y ∷ ys) zero_left = by (y == x) refl zero_left (others ys)
+      where
+        by : (b : Bool) → (y == x) ≡ b → length (filter (λ other. other == x) (y ∷ ys)) ≡ 0
+            → (length (filter (λ other. other == x) ys) ≡ 0 → Each (λ z. x ≢ z) ys) → Each (λ z. x ≢ z) (y ∷ ys)
+        by true is left rest = absurd (let counted : length (y ∷ filter (λ other. other == x) ys) ≡ 0 = subst (λ (b : Bool). length (cond b (y ∷ filter (λ other. other == x) ys) (filter (λ other. other == x) ys)) ≡ 0) is left in omega arith)
+        by false is left rest = (
+          λ same. absurd (let here : (y == x) ≡ true = grind (arith, nat_tests) in let e : true ≡ false = sym here ∙ is in cc),
+          rest (subst (λ (b : Bool). length (cond b (y ∷ filter (λ other. other == x) ys) (filter (λ other. other == x) ys)) ≡ 0) is left),
+        )

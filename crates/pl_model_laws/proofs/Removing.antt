@@ -1,0 +1,352 @@
+-- A row that a goal claims and does not replace is never taken out.
+use Rattle.std.proofs.Common.{◌≡◌, ℕ, zero, suc, ◌+◌, ◌<◌, ◌≤◌, ◌==◌, Bool, true, false, not, ◌&&◌, ◌||◌, ◌⊎◌, inl, inr, List, [], ◌∷◌, ◌++◌, append_assoc, length, nat_lt, Option, Some, None, refl, sym, ◌∙◌, ap, subst, arith, slice_get, option_map, option_and_then, eq-or-lt_of_le}
+use Rattle.std.proofs.lemmas.Bool.Decides.{nat_tests}
+use Rattle.std.specs.List.{cons_option, list_all, list_any, range_with_len}
+use Rattle.pl_state.specs.Chain.{some_passes}
+use Rattle.pl_state.specs.declared.entry.Entry.{Entry}
+use Rattle.pl_state.specs.declared.goal.Goal.{Goal}
+use Rattle.pl_events.specs.Closing.{has_host_end, is_host_end}
+use Rattle.pl_events.specs.declared.event.Event.{Event}
+use Rattle.pl_events.specs.declared.event.What.{What}
+use Rattle.pl_events.specs.declared.event.What.TheVariants.{Told, Begun, Answered, Dropped}
+use Rattle.pl_events.specs.declared.operation.Op.{Op}
+use Rattle.pl_events.specs.declared.operation.Op.TheVariants as op
+use Rattle.pl_events.specs.declared.operation.Subject.TheVariants as subject
+use Rattle.pl_events.specs.declared.reply.Reply.{Reply}
+use Rattle.pl_model.specs.Run.{Fixed, Spelling, has_host, is_preview, is_refresh, rows_of}
+use Rattle.pl_model.specs.Tickets.{Errand, errand_at, same_op, was_begun}
+use Rattle.pl_model.specs.Recording.{has_number, is_removed, only_if, removed_by, removed_by_reply, removed_of, row_of_delete}
+use Rattle.pl_model.specs.Claims.{Decided, chain_of_goal, claimer_of, is_chained, is_claimed, is_create_first, is_delete_first, is_row, numbered}
+use Rattle.pl_model.specs.Due.{is_delete_ready, is_drop_ready, is_due, is_due_on, is_lane_of, is_ready, is_ready_on, is_removable, is_wanted_op, passes_limit, to_drop, to_send}
+use Rattle.pl_model.specs.History.{goals_after, known_of}
+use Rattle.pl_model.specs.Known.{Known, all_recorded, decided_goal, goal_at, has_problem, host_ended, is_over, is_recorded}
+use Rattle.pl_model.specs.Legal.{IsLegal, MayHappen}
+use Rattle.pl_model.specs.Rows.{has_dependents, is_doomed, is_left, is_marked, is_replaced, is_target, row_at, stands_beside, takes_along}
+use Rattle.pl_model_laws.proofs.Claiming.{claims-allowed, numbered_behind, numbered_passes, numbered_there, passing_number, was-made, where_found}
+use Rattle.pl_model_laws.proofs.Growing.{Grown, decisions-stay, equal_numbers, goals-stay, numbered_below, or_true, run_of}
+use Rattle.pl_model_laws.proofs.Leaving.{claim-gone, claimed-once}
+use Rattle.pl_model_laws.proofs.Once.{and_left, and_right, equal_ops, history_of, not_true}
+use Rattle.pl_model_laws.proofs.Recorded.{recorded-held}
+use Rattle.pl_model_laws.proofs.Staying.{errand_sent, recorded-stays, sent_begun, some_same}
+
+-- ---- what stays until a later history
+
+-- what a history tells is still so in what a later one tells
+pub record Later (run : Fixed) (past : List Event) (known : Known) : Type 0 where
+  pub goals : (n : ℕ) (goal : Goal) → goal_at (known_of run past) n ≡ Some goal → goal_at known n ≡ Some goal
+  pub decisions : (n : ℕ) (one : Decided) → decided_goal (known_of run past) n ≡ Some one → decided_goal known n ≡ Some one
+  pub recordings : (n : ℕ) → is_recorded (known_of run past) n ≡ true → is_recorded known n ≡ true
+  pub ended : host_ended (known_of run past) ≡ true → known.goals ≡ (known_of run past).goals
+
+pub later-now : (run : Fixed) (history : List Event) → Later run history (known_of run history)
+later-now run history = record {
+  goals = λ n goal h. h;
+  decisions = λ n one h. h;
+  recordings = λ n h. h;
+  ended = λ h. refl;
+}
+
+-- where the host has ended no goal comes
+none_told : (spelling : Spelling) (known : Known) (seat : ℕ) (what : What) → MayHappen spelling known seat what → host_ended known ≡ true
+    → goals_after known what ≡ known.goals
+none_told spelling known seat (Told request) may h = absurd (let e : true ≡ false = sym h ∙ may.host_open in cc)
+none_told spelling known seat _ may h = refl
+
+ended_goals : (run : Fixed) (spelling : Spelling) (event : Event) (past : List Event)
+    → MayHappen spelling (known_of run past) event.seat event.what → host_ended (known_of run past) ≡ true
+    → (known_of run (event ∷ past)).goals ≡ (known_of run past).goals
+unfolding known_of
+ended_goals run spelling event past may h = none_told spelling (known_of run past) event.seat event.what may h
+
+ended_as : (run : Fixed) (history : List Event) → host_ended (known_of run history) ≡ (not (has_host run.mode) || has_host_end history)
+ended_as run history =
+    ap (λ (fixed : Fixed). not (has_host fixed.mode) || has_host_end (known_of run history).history) (run_of run history)
+    ∙ ap (λ (events : List Event). not (has_host run.mode) || has_host_end events) (history_of run history)
+
+-- the host's end stays
+ended_stays : (run : Fixed) (event : Event) (past : List Event) → host_ended (known_of run past) ≡ true → host_ended (known_of run (event ∷ past)) ≡ true
+ended_stays run event past h =
+    ended_as run (event ∷ past) ∙ by (not (has_host run.mode)) (is_host_end event.what) (sym (ended_as run past) ∙ h)
+  where
+    by : (hostless newest : Bool) → (hostless || has_host_end past) ≡ true → (hostless || (newest || has_host_end past)) ≡ true
+    by true newest h = refl
+    by false newest h = ap (λ (b : Bool). newest || b) h ∙ or_true newest
+
+pub later-before : (run : Fixed) (spelling : Spelling) (event : Event) (past : List Event) (known : Known)
+    → MayHappen spelling (known_of run past) event.seat event.what → Later run (event ∷ past) known → Later run past known
+later-before run spelling event past known may later = record {
+  goals = λ n goal h. later.goals n goal (goals-stay run event past n goal h);
+  decisions = λ n one h. later.decisions n one (decisions-stay run event past n one h);
+  recordings = λ n h. later.recordings n (recorded-stays run event past n h);
+  ended = λ h. later.ended (ended_stays run event past h) ∙ ended_goals run spelling event past may h;
+}
+
+-- ---- tests
+
+-- what is not the second is the first
+first_of_two : (a b : Bool) → (a || b) ≡ true → b ≡ false → a ≡ true
+first_of_two true b h none = refl
+first_of_two false b h none = absurd (let e : true ≡ false = sym h ∙ none in cc)
+
+-- what stands behind one more stands behind
+grown_behind : {X : Type 0} (x : X) (xs ys : List X) → Grown (x ∷ xs) ys → Grown xs ys
+grown_behind x xs ys grown = (grown.0 ++ x ∷ [], grown.1 ∙ sym (append_assoc grown.0 (x ∷ []) xs))
+
+-- a number of a range passes what all of them pass
+range_passes : (test : ℕ → Bool) (a n k : ℕ) → a ≤ k → k < a + n → list_all test (range_with_len a n) ≡ true → test k ≡ true
+range_passes test a zero k low high h = absurd (omega arith)
+range_passes test a (suc n) k low high h =
+    by (eq-or-lt_of_le low) (and_left (test a) _ h)
+    (λ later. range_passes test (a + 1) n k (omega arith) (omega arith) (and_right (test a) _ h))
+  where
+    by : (a ≡ k) ⊎ (a < k) → test a ≡ true → (a < k → test k ≡ true) → test k ≡ true
+    by (inl same) here rest = subst (λ (j : ℕ). test j ≡ true) same here
+    by (inr later) here rest = rest later
+
+-- the deletion of a row is the only one that takes it out
+delete_is : (about : Op) (row : ℕ) → row_of_delete about ≡ Some row → about ≡ op.Delete (subject.Row row)
+delete_is (op.Delete (subject.Row own)) row h = ap (λ (n : ℕ). op.Delete (subject.Row n)) (some_same own row h)
+delete_is _ row h = absurd (let e : None ≡ Some row = h in cc)
+
+only_some : {X : Type 0} (b : Bool) (o : Option X) (x : X) → only_if b o ≡ Some x → o ≡ Some x
+only_some true o x h = h
+only_some false o x h = absurd (let e : None ≡ Some x = h in cc)
+
+-- an answer takes out the row of its errand
+answered_removal : (past : List Event) (ticket : ℕ) (reply : Reply) (row : ℕ) → removed_by past (Answered ticket reply) ≡ Some row
+    → (errand : Errand) × (errand_at past ticket ≡ Some errand) × (row_of_delete errand.op ≡ Some row)
+answered_removal past ticket reply row h = by (errand_at past ticket) refl h
+  where
+    by : (o : Option Errand) → errand_at past ticket ≡ o
+        → option_and_then removed_by_reply (option_map (λ (about : Op). record { op = about; reply = reply })
+        (option_map (λ (errand : Errand). errand.op) o)) ≡ Some row
+        → (errand : Errand) × (errand_at past ticket ≡ Some errand) × (row_of_delete errand.op ≡ Some row)
+    by None is h = absurd (let e : None ≡ Some row = h in cc)
+    by (Some errand) is h = (errand, is, only_some (is_removed reply) (row_of_delete errand.op) row h)
+
+-- ---- the row of a claim that is no replacement
+
+module _ (run : Fixed) (spelling : Spelling) (history : List Event) (number row : ℕ) (one : Decided)
+    (decided : decided_goal (known_of run history) number ≡ Some one) (claims : is_row one.claim row ≡ true)
+    (deletes_none : is_delete_first one.decision ≡ false) (creates_none : is_create_first one.decision ≡ false) where
+  abbrev known : Known
+  known = known_of run history
+
+  -- what is decided of the goal at a history before
+  only_one : (past : List Event) → Later run past known → (other : Decided) → decided_goal (known_of run past) number ≡ Some other → other ≡ one
+  only_one past later other h = some_same other one (sym (later.decisions number other h) ∙ decided)
+
+  -- the goal alone claims the row
+  only_claimer : (past : List Event) → Later run past known → (n : ℕ) (other : Decided) → decided_goal (known_of run past) n ≡ Some other
+      → is_row other.claim row ≡ true → other ≡ one
+  only_claimer past later n other h too =
+      let same : n ≡ number = claimed-once run history n number other one row (later.decisions n other h) decided too claims in
+      only_one past later other (subst (λ (k : ℕ). decided_goal (known_of run past) k ≡ Some other) same h)
+
+  -- so the row is not replaced
+  never_replaced : (past : List Event) → Later run past known → is_replaced (known_of run past) row ≡ false
+  never_replaced past later = by (claimer_of (known_of run past).decided row) refl
+    where
+      beside : (n : ℕ) → claimer_of (known_of run past).decided row ≡ Some n → stands_beside (known_of run past) n ≡ false
+      beside n is =
+          let found = where_found (λ (it : Decided). is_row it.claim row) (known_of run past).decided n is in
+          ap (λ (o : Option Decided). some_passes (λ (it : Decided). is_create_first it.decision) o) found.1
+          ∙ ap (λ (it : Decided). is_create_first it.decision) (only_claimer past later n found.0 found.1 found.2) ∙ creates_none
+
+      at : (n : ℕ) → claimer_of (known_of run past).decided row ≡ Some n → (b : Bool)
+          → some_passes (stands_beside (known_of run past)) (only_if b (Some n)) ≡ false
+      at n is true = beside n is
+      at n is false = refl
+
+      by : (o : Option ℕ) → claimer_of (known_of run past).decided row ≡ o
+          → some_passes (stands_beside (known_of run past))
+          (option_and_then (λ (n : ℕ). only_if (is_recorded (known_of run past) n) (Some n)) o) ≡ false
+      by None is = refl
+      by (Some n) is = at n is (is_recorded (known_of run past) n)
+
+  -- nor marked
+  pub never-marked : (past : List Event) → Later run past known → is_marked (known_of run past) row ≡ false
+  never-marked past later =
+      let allowed = claims-allowed run history number one row (was-made run history number one decided) claims in
+      let base : some_passes (λ (entry : Entry). entry.doomed) (row_at (known_of run past) row) ≡ false =
+      ap (λ (fixed : Fixed). some_passes (λ (entry : Entry). entry.doomed) (slice_get (rows_of fixed) row)) (run_of run past)
+      ∙ ap (λ (o : Option Entry). some_passes (λ (entry : Entry). entry.doomed) o) allowed.at ∙ allowed.stays in
+      ap (λ (b : Bool). b || is_replaced (known_of run past) row) base ∙ never_replaced past later
+
+  -- ---- what would take it out
+
+  -- a recorded goal took it over
+  recorded_gone : (past : List Event) → Later run past known → IsLegal run spelling past
+      → is_recorded (known_of run past) number ≡ true → is_left (known_of run past) row ≡ true → ⊥
+  recorded_gone past later legal recorded left =
+      let there = recorded-held run spelling past number legal recorded in
+      let own : decided_goal (known_of run past) number ≡ Some one =
+      there.2.decided ∙ ap (λ (it : Decided). Some it) (only_one past later there.1 there.2.decided) in
+      let e : true ≡ false = sym (claim-gone run past number one row own claims recorded left) ∙ never-marked past later in
+      cc
+
+  -- where all is over the goal is recorded
+  over_recorded : (past : List Event) → Later run past known → is_over (known_of run past) ≡ true → is_recorded (known_of run past) number ≡ true
+  over_recorded past later h =
+      let made = was-made run history number one decided in
+      let ended : host_ended (known_of run past) ≡ true = and_left _ (all_recorded (known_of run past)) h in
+      let below : number < length known.goals = numbered_below known.goals number made.goal made.stands in
+      let inside : number < length (known_of run past).goals =
+      subst (λ (goals : List Goal). number < length goals) (later.ended ended) below in
+      range_passes (is_recorded (known_of run past)) 0 (length (known_of run past).goals) number (omega arith) (omega arith)
+      (and_right (host_ended (known_of run past)) _ h)
+
+  -- a goal that takes rows along was decided after the claim
+  chained_after : (past : List Event) → Later run past known → (n : ℕ) (other : Decided) → decided_goal (known_of run past) n ≡ Some other
+      → has_number (chain_of_goal run other) row ≡ true → (number ≤ n)
+  chained_after past later n other h chained = by (nat_lt n number) refl
+    where
+      by : (b : Bool) → nat_lt n number ≡ b → number ≤ n
+      by false is = grind (arith, nat_tests)
+      by true is =
+          let made = was-made run history number one decided in
+          let allowed = claims-allowed run history number one row made claims in
+          let count : length made.before ≡ number = made.count in
+          let below : n < number = grind (arith, nat_tests) in
+          let older : Grown made.before known.decided = grown_behind one made.before known.decided made.behind in
+          let there : numbered made.before n ≡ Some other =
+          numbered_behind made.before known.decided n other older (later.decisions n other h) (omega arith) in
+          let some : is_chained run made.before row ≡ true =
+          numbered_passes (λ (it : Decided). has_number (chain_of_goal run it) row) made.before n other there chained in
+          absurd (let e : true ≡ false = sym some ∙ allowed.unchained in cc)
+
+  -- no goal takes it along
+  none_takes : (past : List Event) → Later run past known → list_any (takes_along (known_of run past) row) (known_of run past).decided ≡ true → ⊥
+  none_takes past later h =
+      let found = passing_number (takes_along (known_of run past) row) (known_of run past).decided h in
+      by found.0 found.1 found.2 (is_row found.1.claim row) refl (and_left (is_delete_first found.1.decision) _ found.3)
+      (and_right (is_delete_first found.1.decision) _ found.3)
+    where
+      unclaimed : (n : ℕ) (other : Decided) → decided_goal (known_of run past) n ≡ Some other
+          → has_number (chain_of_goal run other) row ≡ true → is_claimed (known_of run past).decided row ≡ false → ⊥
+      unclaimed n other at chained none =
+          let after : number ≤ n = chained_after past later n other at chained in
+          let below : n < length (known_of run past).decided = numbered_below (known_of run past).decided n other at in
+          let own = numbered_there (known_of run past).decided number (omega arith) in
+          let same : own.0 ≡ one = only_one past later own.0 own.1 in
+          let some : is_claimed (known_of run past).decided row ≡ true =
+          numbered_passes (λ (it : Decided). is_row it.claim row) (known_of run past).decided number own.0 own.1
+          (ap (λ (it : Decided). is_row it.claim row) same ∙ claims) in
+          let e : true ≡ false = sym some ∙ none in
+          cc
+
+      by : (n : ℕ) (other : Decided) → decided_goal (known_of run past) n ≡ Some other → (b : Bool) → is_row other.claim row ≡ b
+          → is_delete_first other.decision ≡ true
+          → (b || (has_number (chain_of_goal (known_of run past).run other) row
+          && (not (is_claimed (known_of run past).decided row) || is_marked (known_of run past) row))) ≡ true → ⊥
+      by n other at true is first takes =
+          let same : other ≡ one = only_claimer past later n other at is in
+          let e : true ≡ false = sym first ∙ ap (λ (it : Decided). is_delete_first it.decision) same ∙ deletes_none in
+          cc
+      by n other at false is first takes =
+          let chained : has_number (chain_of_goal run other) row ≡ true =
+          subst (λ (fixed : Fixed). has_number (chain_of_goal fixed other) row ≡ true) (run_of run past)
+          (and_left (has_number (chain_of_goal (known_of run past).run other) row) _ takes) in
+          let free : not (is_claimed (known_of run past).decided row) ≡ true =
+          first_of_two (not (is_claimed (known_of run past).decided row)) (is_marked (known_of run past) row)
+          (and_right (has_number (chain_of_goal (known_of run past).run other) row) _ takes) (never-marked past later) in
+          unclaimed n other at chained (not_true (is_claimed (known_of run past).decided row) free)
+
+  not_doomed : (past : List Event) → Later run past known → IsLegal run spelling past → is_doomed (known_of run past) row ≡ true → ⊥
+  not_doomed past later legal h =
+      let before : (is_left (known_of run past) row && not (is_refresh (known_of run past).run.mode) && is_target (known_of run past) row) ≡ true =
+      and_left _ (is_over (known_of run past) || list_any (takes_along (known_of run past) row) (known_of run past).decided) h in
+      let left : is_left (known_of run past) row ≡ true =
+      and_left (is_left (known_of run past) row) _ (and_left _ (is_target (known_of run past) row) before) in
+      by left (is_over (known_of run past)) refl
+      (and_right (is_left (known_of run past) row && not (is_refresh (known_of run past).run.mode) && is_target (known_of run past) row) _ h)
+    where
+      by : is_left (known_of run past) row ≡ true → (b : Bool) → is_over (known_of run past) ≡ b
+          → (b || list_any (takes_along (known_of run past) row) (known_of run past).decided) ≡ true → ⊥
+      by left true is h = recorded_gone past later legal (over_recorded past later is) left
+      by left false is h = none_takes past later h
+
+  not_removable : (past : List Event) → Later run past known → IsLegal run spelling past → is_removable (known_of run past) row ≡ true → ⊥
+  not_removable past later legal h =
+      not_doomed past later legal
+      (and_left (is_doomed (known_of run past) row) (not (has_dependents (known_of run past) row))
+      (and_left _ (not (is_preview (known_of run past).run.mode)) h))
+
+  -- ---- it is not taken out
+
+  abbrev deletes : Op
+  deletes = op.Delete (subject.Row row)
+
+  not_dropped : (past : List Event) → Later run past known → IsLegal run spelling past → is_due (known_of run past) (to_drop row) ≡ true → ⊥
+  not_dropped past later legal h =
+      not_removable past later legal (and_left (is_removable (known_of run past) row) _
+      (and_right (not (has_problem (known_of run past))) (is_drop_ready (known_of run past) row)
+      (and_left (is_ready (known_of run past) (to_drop row)) (not (passes_limit (known_of run past) (to_drop row))) h)))
+
+  not_deleted : (past : List Event) → Later run past known → IsLegal run spelling past → (lane : ℕ)
+      → is_due_on (known_of run past) deletes lane ≡ true → ⊥
+  not_deleted past later legal lane h =
+      let ready : is_ready_on (known_of run past) deletes lane ≡ true =
+      and_left (is_ready_on (known_of run past) deletes lane) (not (passes_limit (known_of run past) (to_send deletes))) h in
+      let wanted : is_wanted_op (known_of run past) deletes ≡ true =
+      and_right (not (has_problem (known_of run past))) _ (and_left _ (is_lane_of (known_of run past) deletes lane) ready) in
+      let asked : is_delete_ready (known_of run past) row ≡ true =
+      and_right (not (was_begun (known_of run past).history deletes)) _ wanted in
+      not_removable past later legal (and_left (is_removable (known_of run past) row) _ asked)
+
+  -- its deletion is not begun
+  begun_step : (past : List Event) → Later run past known → IsLegal run spelling past → (seat : ℕ) (what : What)
+      → MayHappen spelling (known_of run past) seat what → was_begun past deletes ≡ false
+      → was_begun (record { seat = seat; what = what } ∷ past) deletes ≡ false
+  begun_step past later legal seat (Begun ticket lane about) may never = by (same_op about deletes) refl
+    where
+      by : (b : Bool) → same_op about deletes ≡ b → (b || was_begun past deletes) ≡ false
+      by true is = absurd (not_deleted past later legal lane
+          (subst (λ (it : Op). is_due_on (known_of run past) it lane ≡ true) (equal_ops about deletes is) may.due))
+      by false is = never
+  begun_step past later legal seat _ may never = never
+
+  never_begun : (past : List Event) → Later run past known → IsLegal run spelling past → was_begun past deletes ≡ false
+  never_begun [] later legal = refl
+  never_begun (event ∷ past) later legal =
+      let before = later-before run spelling event past known legal.1 later in
+      begun_step past before legal.0 event.seat event.what legal.1 (never_begun past before legal.0)
+
+  not_removed : (past : List Event) → Later run past known → IsLegal run spelling past → (seat : ℕ) (what : What)
+      → MayHappen spelling (known_of run past) seat what → removed_by past what ≡ Some row → ⊥
+  not_removed past later legal seat (Dropped own) may h =
+      not_dropped past later legal
+      (subst (λ (n : ℕ). is_due (known_of run past) (to_drop n) ≡ true) (some_same own row h) may)
+  not_removed past later legal seat (Answered ticket reply) may h =
+      let found = answered_removal past ticket reply row h in
+      let begun : was_begun past deletes ≡ true =
+      subst (λ (about : Op). was_begun past about ≡ true) (delete_is found.0.op row found.2)
+      (sent_begun past ticket found.0.op (errand_sent past ticket found.0 found.1)) in
+      let e : true ≡ false = sym begun ∙ never_begun past later legal in
+      cc
+  not_removed past later legal seat _ may h = let e : None ≡ Some row = h in cc
+
+  removed_none : (past : List Event) → Later run past known → IsLegal run spelling past → has_number (removed_of past) row ≡ false
+  removed_none [] later legal = refl
+  removed_none (event ∷ past) later legal =
+      by (removed_by past event.what) refl (removed_none past (later-before run spelling event past known legal.1 later) legal.0)
+    where
+      at : (own : ℕ) → removed_by past event.what ≡ Some own → (b : Bool) → (own == row) ≡ b
+          → has_number (removed_of past) row ≡ false → (b || has_number (removed_of past) row) ≡ false
+      at own is true same rest =
+          absurd (not_removed past (later-before run spelling event past known legal.1 later) legal.0 event.seat event.what legal.1
+          (is ∙ ap (λ (n : ℕ). Some n) (equal_numbers own row same)))
+      at own is false same rest = rest
+
+      by : (o : Option ℕ) → removed_by past event.what ≡ o → has_number (removed_of past) row ≡ false
+          → has_number (cons_option o (removed_of past)) row ≡ false
+      by None is rest = rest
+      by (Some own) is rest = at own is (own == row) refl rest
+
+-- a row that a goal claims and does not replace is never taken out
+pub never-removed : (run : Fixed) (spelling : Spelling) (history : List Event) (number row : ℕ) (one : Decided)
+    → decided_goal (known_of run history) number ≡ Some one → is_row one.claim row ≡ true
+    → is_delete_first one.decision ≡ false → is_create_first one.decision ≡ false → IsLegal run spelling history
+    → has_number (removed_of history) row ≡ false
+never-removed run spelling history number row one decided claims deletes_none creates_none legal =
+    removed_none run spelling history number row one decided claims deletes_none creates_none history (later-now run history) legal

@@ -1,0 +1,200 @@
+-- What refers to a provider's row that a recorded goal took over refers to that goal after the turns of all aliases.
+use Rattle.std.proofs.Common.{◌≡◌, ℕ, ◌==◌, Bool, true, false, not, ◌&&◌, ◌||◌, List, [], ◌∷◌, ◌<◌, length, nat_lt, Option, Some, None, refl, sym, ◌∙◌, ap, arith, slice_get, option_and_then}
+use Rattle.std.proofs.lemmas.Bool.Decides.{nat_tests}
+use Rattle.std.proofs.lemmas.Option.{slice_get_within}
+use Rattle.std.specs.Bool.{beq}
+use Rattle.std.specs.List.{cons_option}
+use Rattle.pl_state.specs.Chain.{some_passes}
+use Rattle.pl_state.specs.Kinds.{is_of_provider, is_provider_goal, is_provider_row}
+use Rattle.pl_state.specs.declared.entry.Entry.{Entry}
+use Rattle.pl_state.specs.declared.goal.Goal.{Goal}
+use Rattle.pl_events.specs.declared.event.Event.{Event}
+use Rattle.pl_model.specs.Run.{Fixed, Spelling, is_preview, rows_of}
+use Rattle.pl_model.specs.Recording.{has_number, only_if, recorded_by, recorded_of, removed_of}
+use Rattle.pl_model.specs.Claims.{Decided, claimer_of, is_create_first, is_delete_first, is_row}
+use Rattle.pl_model.specs.Entries.{Turning, turning_of, turnings}
+use Rattle.pl_model.specs.History.{known_of}
+use Rattle.pl_model.specs.Known.{Known, decided_goal, goal_at, is_recorded}
+use Rattle.pl_model.specs.Legal.{IsLegal}
+use Rattle.pl_model.specs.Rows.{is_left, is_marked, is_taken_over, recorded_claimer, stands_beside}
+use Rattle.pl_model_laws.specs.Apart.{KeepsApart}
+use Rattle.pl_model_laws.proofs.Claiming.{claims-allowed, provider-stays, was-made, where_found}
+use Rattle.pl_model_laws.proofs.Freed.{free-recorded}
+use Rattle.pl_model_laws.proofs.Growing.{run_of, same_number}
+use Rattle.pl_model_laws.proofs.Leaving.{claimed-once}
+use Rattle.pl_model_laws.proofs.Once.{history_of}
+use Rattle.pl_model_laws.proofs.Recorded.{recording-held, recording-new}
+use Rattle.pl_model_laws.proofs.Removing.{Later, later-before, later-now, never-marked, never-removed}
+use Rattle.pl_model_laws.proofs.Staying.{recorded-as, some_same}
+use Rattle.pl_model_laws.proofs.TakenOver.{AllDecided, AreRecorded, all-decided, first-turned, first_true, neither, taker, turning_row}
+use Rattle.pl_model_laws.proofs.Turning.{other-turn, turned-of, turned_at, turned_by, turned_of, turning_parts}
+
+-- what is alike to something true is true
+alike_true : (a b : Bool) → beq a b ≡ true → b ≡ true → a ≡ true
+alike_true true b h is = refl
+alike_true false true h is = absurd (let e : false ≡ true = h in cc)
+alike_true false false h is = absurd (let e : false ≡ true = is in cc)
+
+-- a row of the start that is neither gone nor taken over is left
+left_so : (below gone taken : Bool) → below ≡ true → gone ≡ false → taken ≡ false → (below && not gone && not taken) ≡ true
+left_so true false false here stays free = refl
+left_so true false true here stays free = absurd (let e : true ≡ false = free in cc)
+left_so true true taken here stays free = absurd (let e : true ≡ false = stays in cc)
+left_so false gone taken here stays free = absurd (let e : false ≡ true = here in cc)
+
+-- ---- the claim of a goal that is not recorded yet and replaces nothing
+
+module _ (run : Fixed) (spelling : Spelling) (past : List Event) (legal : IsLegal run spelling past) (number row : ℕ) (one : Decided) (entry : Entry)
+    (decided : decided_goal (known_of run past) number ≡ Some one) (claims : is_row one.claim row ≡ true)
+    (deletes_none : is_delete_first one.decision ≡ false) (creates_none : is_create_first one.decision ≡ false)
+    (at : slice_get (rows_of run) row ≡ Some entry) (unrecorded : has_number (recorded_of past) number ≡ false) where
+  abbrev before : Known
+  before = known_of run past
+
+  -- no recorded goal claims the row
+  none_recorded : recorded_claimer before row ≡ None
+  none_recorded = by (claimer_of before.decided row) refl
+    where
+      by : (o : Option ℕ) → claimer_of before.decided row ≡ o
+          → option_and_then (λ (n : ℕ). only_if (is_recorded before n) (Some n)) o ≡ None
+      by None is = refl
+      by (Some n) is =
+          let found = where_found (λ (it : Decided). is_row it.claim row) before.decided n is in
+          let same : n ≡ number = claimed-once run past n number found.0 one row found.1 decided found.2 claims in
+          ap (λ (b : Bool). only_if b (Some n))
+          (ap (λ (k : ℕ). is_recorded before k) same ∙ recorded-as run past number ∙ unrecorded)
+
+  -- so the row is left
+  claim_left : is_left before row ≡ true
+  claim_left =
+      let inside : row < length (rows_of run) = slice_get_within (rows_of run) row entry at in
+      let below : nat_lt row (length (rows_of run)) ≡ true = grind (arith, nat_tests) in
+      left_so (nat_lt row (length (rows_of before.run))) (has_number (removed_of before.history) row) (is_taken_over before row)
+      (ap (λ (fixed : Fixed). nat_lt row (length (rows_of fixed))) (run_of run past) ∙ below)
+      (ap (λ (events : List Event). has_number (removed_of events) row) (history_of run past)
+      ∙ never-removed run spelling past number row one decided claims deletes_none creates_none legal)
+      (ap (λ (o : Option ℕ). some_passes (λ (n : ℕ). not (stands_beside before n)) o) none_recorded)
+
+  -- and not marked
+  claim_unmarked : is_marked before row ≡ false
+  claim_unmarked = never-marked run spelling past number row one decided claims deletes_none creates_none past (later-now run past)
+
+module _ (run : Fixed) (spelling : Spelling) (history : List Event) (real : is_preview run.mode ≡ false) (apart : KeepsApart (rows_of run))
+    (legal : IsLegal run spelling history) where
+  abbrev known : Known
+  known = known_of run history
+
+  decided_all : AllDecided run history
+  decided_all = all-decided run spelling history legal
+
+  -- what a history before records is recorded
+  are_recorded : (past : List Event) → Later run past known → AreRecorded known (recorded_of past)
+  are_recorded past later n h = later.recordings n (recorded-as run past n ∙ h)
+
+  -- this row of a provider is claimed by this goal
+  module _ (row : ℕ) (entry : Entry) (at : slice_get (rows_of run) row ≡ Some entry)
+      (number : ℕ) (goal : Goal) (one : Decided) (stands : goal_at known number ≡ Some goal) (provider : is_provider_goal goal ≡ true)
+      (decided : decided_goal known number ≡ Some one) (claims : is_row one.claim row ≡ true) where
+    -- no goal that is recorded later claims a row with the goal's URN
+    never_turned : (event : Event) (past : List Event) → Later run past known → IsLegal run spelling (event ∷ past)
+        → has_number (recorded_of past) number ≡ true → (other : ℕ) → recorded_by past event.what ≡ Some other
+        → is_recorded known other ≡ true → (turning : Turning) → turning_of known other ≡ Some turning → goal.urn ≡ turning.old → ⊥
+    never_turned event past later legal_then recorded other records is_there turning is same =
+        let turn = turning_parts known other turning is in
+        let its = turning_row run history decided_all other turning is_there turn in
+        let made = was-made run history other its.0 its.2 in
+        let allowed = claims-allowed run history other its.0 its.1 made its.3 in
+        let urn : goal.urn ≡ turn.row.urn = same ∙ turn.from in
+        let provides : is_provider_row allowed.entry ≡ true =
+        ap (λ (it : Entry). is_provider_row it) (some_same allowed.entry turn.row (sym allowed.at ∙ its.4))
+        ∙ ap (λ (text : List ℕ). is_of_provider text) (sym urn) ∙ provider in
+        let stays : (is_delete_first its.0.decision ≡ false) × (is_create_first its.0.decision ≡ false) =
+        neither (is_delete_first its.0.decision) (is_create_first its.0.decision)
+        (provider-stays run history other its.0 made
+        (alike_true (is_provider_goal made.goal) (is_provider_row allowed.entry) allowed.alike provides)) in
+        let there = recording-held run spelling event past other legal_then records in
+        let own : decided_goal (known_of run past) other ≡ Some its.0 =
+        there.2.decided ∙ ap (λ (it : Decided). Some it) (some_same there.1 its.0 (sym (later.decisions other there.1 there.2.decided) ∙ its.2)) in
+        let unrecorded : has_number (recorded_of past) other ≡ false =
+        recording-new run spelling event.seat past event.what other legal_then.0 legal_then.1 records in
+        let left : is_left (known_of run past) its.1 ≡ true =
+        claim_left run spelling past legal_then.0 other its.1 its.0 turn.row own its.3 stays.0 stays.1 its.4 unrecorded in
+        let unmarked : is_marked (known_of run past) its.1 ≡ false =
+        claim_unmarked run spelling past legal_then.0 other its.1 its.0 turn.row own its.3 stays.0 stays.1 its.4 unrecorded in
+        let free = free-recorded run spelling real apart past number legal_then.0 recorded in
+        let goal_same : free.goal ≡ goal = some_same free.goal goal (sym (later.goals number free.goal free.stands) ∙ stands) in
+        let one_same : free.one ≡ one = some_same free.one one (sym (later.decisions number free.one free.decided) ∙ decided) in
+        free.none its.1 turn.row its.4 left unmarked
+        (ap (λ (it : Decided). is_row it.claim its.1) one_same ∙ not_own recorded other its.0 its.1 its.2 its.3 unrecorded)
+        (sym urn ∙ sym (ap (λ (it : Goal). it.urn) goal_same))
+      where
+        not_own : has_number (recorded_of past) number ≡ true → (n : ℕ) (its : Decided) (place : ℕ) → decided_goal known n ≡ Some its
+            → is_row its.claim place ≡ true → has_number (recorded_of past) n ≡ false → is_row one.claim place ≡ false
+        not_own recorded n its place decided_too claims_too unrecorded = by (is_row one.claim place) refl
+          where
+            by : (b : Bool) → is_row one.claim place ≡ b → b ≡ false
+            by false is = refl
+            by true is =
+                let one_goal : number ≡ n = claimed-once run history number n one its place decided decided_too is claims_too in
+                let e : true ≡ false = sym recorded ∙ ap (λ (k : ℕ). has_number (recorded_of past) k) one_goal ∙ unrecorded in
+                absurd (let f : true ≡ false = e in cc)
+
+    -- from its record on the URN is the goal's own
+    stays_turned : (past : List Event) → Later run past known → IsLegal run spelling past → has_number (recorded_of past) number ≡ true
+        → turned_of known (recorded_of past) entry.urn ≡ goal.urn
+    stays_turned [] later legal_then h = absurd (let e : false ≡ true = h in cc)
+    stays_turned (event ∷ past) later legal_then h =
+        by (recorded_by past event.what) refl h
+        (stays_turned past (later-before run spelling event past known legal_then.1 later) legal_then.0)
+      where
+        new_recorded : (other : ℕ) → recorded_by past event.what ≡ Some other → is_recorded known other ≡ true
+        new_recorded other is =
+            are_recorded (event ∷ past) later other
+            (ap (λ (o : Option ℕ). has_number (cons_option o (recorded_of past)) other) is
+            ∙ ap (λ (b : Bool). b || has_number (recorded_of past) other) (same_number other))
+
+        new : (other : ℕ) → recorded_by past event.what ≡ Some other → (b : Bool) → has_number (recorded_of past) number ≡ b
+            → ((other == number) || b) ≡ true
+            → (has_number (recorded_of past) number ≡ true → turned_of known (recorded_of past) entry.urn ≡ goal.urn)
+            → turned_of known (other ∷ recorded_of past) entry.urn ≡ goal.urn
+        new other is true recorded h rest =
+            ap (turned_at (turning_of known other)) (rest recorded)
+            ∙ other-turn (turning_of known other) goal.urn
+            (never_turned event past (later-before run spelling event past known legal_then.1 later) legal_then recorded other is (new_recorded other is))
+        new other is false none h rest =
+            first-turned run history decided_all apart row entry at number goal one stands decided claims other (recorded_of past)
+            (are_recorded past (later-before run spelling event past known legal_then.1 later)) none
+            (first_true (other == number) h)
+
+        by : (o : Option ℕ) → recorded_by past event.what ≡ o → has_number (cons_option o (recorded_of past)) number ≡ true
+            → (has_number (recorded_of past) number ≡ true → turned_of known (recorded_of past) entry.urn ≡ goal.urn)
+            → turned_of known (cons_option o (recorded_of past)) entry.urn ≡ goal.urn
+        by None is h rest = rest h
+        by (Some other) is h rest = new other is (has_number (recorded_of past) number) refl h rest
+
+  -- the URN of a provider's row that was taken over turns into that of the goal that took it over
+  pub provider-turned : (row : ℕ) (entry : Entry) → slice_get (rows_of run) row ≡ Some entry → is_taken_over known row ≡ true
+      → is_provider_row entry ≡ true
+      → (n : ℕ) × (goal : Goal) × (one : Decided) × (is_recorded known n ≡ true) × (goal_at known n ≡ Some goal)
+      × (decided_goal known n ≡ Some one) × (is_row one.claim row ≡ true) × (is_provider_goal goal ≡ true)
+      × (turned_by (turnings known) entry.urn ≡ goal.urn)
+  provider-turned row entry at taken provides =
+      let own = taker run history decided_all row taken in
+      let made = was-made run history own.number own.one own.decided in
+      let allowed = claims-allowed run history own.number own.one row made own.claims in
+      let provider : is_provider_goal made.goal ≡ true =
+      alike_true (is_provider_goal made.goal) (is_provider_row allowed.entry) allowed.alike
+      (ap (λ (it : Entry). is_provider_row it) (some_same allowed.entry entry (sym allowed.at ∙ at)) ∙ provides) in
+      let turned : turned_of known (recorded_of history) entry.urn ≡ made.goal.urn =
+      stays_turned row entry at own.number made.goal own.one made.stands provider own.decided own.claims history (later-now run history) legal
+      (sym (recorded-as run history own.number) ∙ own.recorded) in (
+        own.number,
+        made.goal,
+        own.one,
+        own.recorded,
+        made.stands,
+        own.decided,
+        own.claims,
+        provider,
+        turned-of known entry.urn ∙ ap (λ (events : List Event). turned_of known (recorded_of events) entry.urn) (history_of run history) ∙ turned,
+      )
