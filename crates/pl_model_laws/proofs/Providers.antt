@@ -1,170 +1,41 @@
--- That a recorded provider's entry has the id by which references name it.
-use Rattle.std.proofs.Common.{◌≡◌, ℕ, ◌==◌, Bool, true, false, not, ◌&&◌, ◌||◌, if◌then◌else◌, List, [], ◌∷◌, length, cond, find, Option, Some, None, is_some, is_none, refl, sym, ◌∙◌, ap, subst, option_map, option_and_then}
+-- The id of a recorded provider is the one that its entry has.
+use Rattle.std.proofs.Common.{◌≡◌, ℕ, ◌==◌, Bool, true, false, ◌||◌, if◌then◌else◌, List, [], ◌∷◌, Option, Some, None, is_some, refl, sym, ◌∙◌, ap, subst, option_map, option_and_then, not, ◌&&◌, cond, find, is_none}
 use Rattle.std.specs.List.{cons_option, list_any}
 use Rattle.std.specs.Option.{option_or}
 use Rattle.pl_options.specs.Names.{id_text}
 use Rattle.pl_state.specs.Chain.{some_passes}
-use Rattle.pl_state.specs.Kinds.{is_component, is_importing_goal, is_provided, is_provider_goal, is_reading_goal}
+use Rattle.pl_state.specs.Kinds.{is_provided, is_provider_goal}
 use Rattle.pl_state.specs.declared.entry.Entry.{Entry}
-use Rattle.pl_state.specs.declared.goal.Diffed.{Diffed}
 use Rattle.pl_state.specs.declared.goal.Goal.{Goal}
 use Rattle.pl_events.specs.declared.event.Event.{Event}
 use Rattle.pl_events.specs.declared.event.What.{What}
-use Rattle.pl_events.specs.declared.event.What.TheVariants.{Begun, Answered, Kept}
+use Rattle.pl_events.specs.declared.event.What.TheVariants.{Answered, Kept, Begun}
 use Rattle.pl_events.specs.declared.operation.Op.{Op}
 use Rattle.pl_events.specs.declared.operation.Op.TheVariants as op
 use Rattle.pl_events.specs.declared.operation.Subject.TheVariants as subject
 use Rattle.pl_events.specs.declared.reply.Reply.{Reply}
-use Rattle.pl_decide.specs.Table.{decide}
-use Rattle.pl_decide.specs.declared.decision.Decision.{Decision}
-use Rattle.pl_decide.specs.declared.decision.Decision.TheVariants as decision
-use Rattle.pl_decide.specs.declared.decision.ProviderChange.{ProviderChange}
-use Rattle.pl_decide.specs.declared.problem.Problem.{Problem}
-use Rattle.pl_model.specs.Run.{Fixed, Pairs, Spelling, is_preview}
-use Rattle.pl_model.specs.Tickets.{Closed, Errand, answers_of, begun_of, errand_by, op_at, same_op, was_begun}
-use Rattle.pl_model.specs.Recording.{fresh_by, fresh_of, goal_of_op, has_number, is_thing, only_if, recorded_by, recorded_by_reply, recorded_of}
-use Rattle.pl_model.specs.Claims.{Decided, claimed_row, first_some, id_of_row, is_row, numbered, usable_id}
-use Rattle.pl_model.specs.Decisions.{Turn, chain_refusal, change_at, checked_at, claim_at, decided_at, decided_by, decided_next, decided_of, decision_at, diff_at, final_decision, is_refused, limit_refusal, refused_by, turn_of}
+use Rattle.pl_model.specs.Run.{Fixed, Spelling, is_preview}
+use Rattle.pl_model.specs.Tickets.{op_at, Errand, begun_of, errand_by, same_op, was_begun}
+use Rattle.pl_model.specs.Recording.{has_number, is_thing, goal_of_op, only_if, recorded_by, recorded_by_reply, recorded_of, fresh_by, fresh_of}
+use Rattle.pl_model.specs.Claims.{Decided, claimed_row, first_some, id_of_row, is_row, usable_id}
+use Rattle.pl_model.specs.Decisions.{is_refused}
 use Rattle.pl_model.specs.Due.{for_decided, has_unknown_provider, is_asked, is_due_on, is_keep_ready, is_lane_of, is_placed, is_reading, is_ready, is_ready_on, is_wanted_op, keeps_goal, op_of_decision, op_of_goal, passes_limit, provider_stands, references_recorded, sends_goal, to_keep, to_send, urn_is_free, way_is_free}
-use Rattle.pl_model.specs.Entries.{Result, is_keep, is_update, kept_changed, kept_new, kept_planned, kept_provider_id, kept_same, recording_of, result_answered, result_kept, result_of_keep}
+use Rattle.pl_model.specs.Entries.{Result, recording_of, result_answered, result_kept, result_of_keep, kept_provider_id}
 use Rattle.pl_model.specs.History.{known_of}
-use Rattle.pl_model.specs.Known.{Known, claim_row, decided_goal, goal_at, has_problem, is_recorded, provider_id}
+use Rattle.pl_model.specs.Known.{Known, decided_goal, goal_at, is_recorded, claim_row, has_problem, provider_id}
 use Rattle.pl_model.specs.Legal.{IsLegal, MayBeKept, MayHappen, needs_fresh}
-use Rattle.pl_model_laws.proofs.Growing.{decided_as, decisions-stay, equal_numbers, goals-stay, or_true, run_of}
+use Rattle.pl_model_laws.proofs.Growing.{equal_numbers, decisions-stay, goals-stay, run_of}
 use Rattle.pl_model_laws.proofs.Once.{and_left, and_right, history_of, not_true}
-use Rattle.pl_model_laws.proofs.Standing.{claim-of-decided, closed_with, kept_in, or_none}
-
--- a test that passes what is there
-pub passing : {X : Type 0} (test : X → Bool) (o : Option X) → some_passes test o ≡ true → (x : X) × (o ≡ Some x) × (test x ≡ true)
-passing test None h = absurd (let e : false ≡ true = h in cc)
-passing test (Some x) h = (x, refl, h)
-
--- nothing else can be there
-abbrev pub IsOnly : {X : Type 0} → Option X → X → Type 0
-IsOnly {X} o x = (y : X) → o ≡ Some y → y ≡ x
-
--- ---- a goal that is kept as it was has a claim
-
--- without a claim the table does not keep
-table_not_keep : (goal : Goal) (change : ProviderChange) (checked : Pairs) (diff : Option Diffed)
-    → is_keep (decide None goal change checked diff) ≡ false
-table_not_keep goal change checked diff = by (is_reading_goal goal) (is_importing_goal goal)
-  where
-    by : (reading importing : Bool)
-        → is_keep (if reading then decision.ReadOnly else (if importing then decision.Import else decision.Create)) ≡ false
-    by true importing = refl
-    by false true = refl
-    by false false = refl
-
--- nor does what the chain and the limits say to it
-final_not_keep : (turn : Turn) (choice : Decision) → is_keep choice ≡ false → is_keep (final_decision turn choice) ≡ false
-final_not_keep turn choice h = by (is_refused choice) (option_or (chain_refusal turn choice) (limit_refusal turn choice))
-  where
-    by : (b : Bool) (o : Option Problem) → is_keep (if b then choice else refused_by o choice) ≡ false
-    by true o = h
-    by false None = h
-    by false (Some problem) = refl
-
-abbrev pub KeepsClaim : Fixed → Decided → Type 0
-KeepsClaim run one = is_keep one.decision ≡ true → is_some (claimed_row run one.claim) ≡ true
-
-decided_keeps : (turn : Turn) (checked : Pairs) (diff : Option Diffed) → KeepsClaim turn.run (decided_by turn checked diff)
-decided_keeps turn checked diff h = by (claim_at turn) refl
-  where
-    by : (o : Option Entry) → claim_at turn ≡ o → is_some (claim_at turn) ≡ true
-    by (Some row) is = ap (λ (o : Option Entry). is_some o) is
-    by None is =
-        let none : is_keep (decision_at turn checked diff) ≡ false =
-        final_not_keep turn (decide (claim_at turn) turn.goal (change_at turn) checked diff)
-        (ap (λ (o : Option Entry). is_keep (decide o turn.goal (change_at turn) checked diff)) is
-        ∙ table_not_keep turn.goal (change_at turn) checked diff) in
-        absurd (let e : true ≡ false = sym h ∙ none in cc)
-
-turn_keeps : (turn : Turn) (one : Decided) → decided_at turn ≡ Some one → KeepsClaim turn.run one
-turn_keeps turn one h = by (checked_at turn) (diff_at turn) h
-  where
-    by : (checked : Option Pairs) (diff : Option (Option Diffed))
-        → option_and_then (λ (fields : Pairs). option_map (decided_by turn fields) diff) checked ≡ Some one → KeepsClaim turn.run one
-    by None diff h = absurd (let e : None ≡ Some one = h in cc)
-    by (Some fields) None h = absurd (let e : None ≡ Some one = h in cc)
-    by (Some fields) (Some diff) h =
-        let same : decided_by turn fields diff ≡ one = cc in
-        subst (λ (it : Decided). KeepsClaim turn.run it) same (decided_keeps turn fields diff)
-
-next_keeps : (run : Fixed) (answers : List Closed) (earlier : List Goal) (before : List Decided) (goal : Goal) (one : Decided)
-    → decided_next run answers earlier before goal ≡ Some one → KeepsClaim run one
-next_keeps run answers earlier before goal one h = by (length before == length earlier) h
-  where
-    by : (b : Bool) → (if b then decided_at (turn_of run answers earlier before goal) else None) ≡ Some one → KeepsClaim run one
-    by true h = turn_keeps (turn_of run answers earlier before goal) one h
-    by false h = absurd (let e : None ≡ Some one = h in cc)
-
-each_keeps : (run : Fixed) (answers : List Closed) (goals : List Goal) (number : ℕ) (one : Decided)
-    → numbered (decided_of run answers goals) number ≡ Some one → KeepsClaim run one
-each_keeps run answers [] number one h = absurd (let e : None ≡ Some one = h in cc)
-each_keeps run answers (goal ∷ earlier) number one h =
-    by (decided_next run answers earlier (decided_of run answers earlier) goal) refl (each_keeps run answers earlier number one) h
-  where
-    here : (first : Decided) → KeepsClaim run first → (b : Bool) → (numbered (decided_of run answers earlier) number ≡ Some one → KeepsClaim run one)
-        → (if b then Some first else numbered (decided_of run answers earlier) number) ≡ Some one → KeepsClaim run one
-    here first keeps true rest h = let same : first ≡ one = cc in subst (λ (it : Decided). KeepsClaim run it) same keeps
-    here first keeps false rest h = rest h
-
-    by : (o : Option Decided) → decided_next run answers earlier (decided_of run answers earlier) goal ≡ o
-        → (numbered (decided_of run answers earlier) number ≡ Some one → KeepsClaim run one)
-        → numbered (cons_option o (decided_of run answers earlier)) number ≡ Some one → KeepsClaim run one
-    by None is rest h = rest h
-    by (Some first) is rest h =
-        here first (next_keeps run answers earlier (decided_of run answers earlier) goal first is)
-        (length (decided_of run answers earlier) == number) rest h
-
--- a decision to keep is one over a claim
-pub keep_has_claim : (run : Fixed) (history : List Event) (number : ℕ) (one : Decided)
-    → decided_goal (known_of run history) number ≡ Some one → KeepsClaim (known_of run history).run one
-keep_has_claim run history number one h =
-    let known : Known = known_of run history in
-    each_keeps known.run (answers_of known.history) known.goals number one
-    (subst (λ (ones : List Decided). numbered ones number ≡ Some one) (decided_as run history) h)
-
--- ---- the id that a keep gives to a provider
-
-keep_id : (goal : Goal) (row : Option Entry) (one : Decided) (fresh : Option ℕ) → is_provider_goal goal ≡ true
-    → (is_keep one.decision ≡ true → is_some row ≡ true) → (result_of_keep goal row one fresh).id ≡ kept_provider_id row fresh
-keep_id goal row one fresh provider keeps = by (is_keep one.decision) refl
-  where
-    same : (o : Option Entry) → is_some o ≡ true → (kept_same goal o fresh).id ≡ kept_provider_id o fresh
-    same None h = absurd (let e : false ≡ true = h in cc)
-    same (Some claim) h = ap (λ (b : Bool). if b then kept_provider_id (Some claim) fresh else claim.id) provider
-
-    other : (b : Bool) → (if b then kept_changed goal row fresh else kept_new goal row fresh).id ≡ kept_provider_id row fresh
-    other true = ap (λ (b : Bool). if b then kept_provider_id row fresh else id_of_row row) provider
-    other false = ap (λ (b : Bool). if b then kept_provider_id row fresh else None) provider
-
-    alone : (is_component goal || is_provider_goal goal) ≡ true
-    alone = ap (λ (b : Bool). is_component goal || b) provider ∙ or_true (is_component goal)
-
-    by : (keep : Bool) → is_keep one.decision ≡ keep → (if keep then kept_same goal row fresh
-        else (if not (is_component goal || is_provider_goal goal) then kept_planned goal row one
-        else (if is_update one.decision then kept_changed goal row fresh else kept_new goal row fresh))).id ≡ kept_provider_id row fresh
-    by true is = same row (keeps is)
-    by false is =
-        ap (λ (b : Bool). (if not b then kept_planned goal row one
-        else (if is_update one.decision then kept_changed goal row fresh else kept_new goal row fresh)).id) alone
-        ∙ other (is_update one.decision)
-
--- an id is there where a number is, exactly if one is needed
-id_there : (claimed : Option (List ℕ)) (fresh : Option ℕ) → is_some fresh ≡ is_none claimed
-    → is_some (option_or claimed (option_map id_text fresh)) ≡ true
-id_there (Some id) fresh h = refl
-id_there None None h = absurd (let e : false ≡ true = h in cc)
-id_there None (Some drawn) h = refl
+use Rattle.pl_model_laws.proofs.Standing.{IsOnly, KeepsClaim, claim-of-decided, closed_with, id_there, keep_has_claim, keep_id, kept_in, only_there, or_none, passing}
 
 -- ---- no operation is sent for a provider
 
+-- nothing that is false passes
 and_false : (a : Bool) → (a && false) ≡ false
 and_false true = refl
 and_false false = refl
 
+-- a provider has no provider
 not_provided : (goal : Goal) → is_provider_goal goal ≡ true → is_provided goal ≡ false
 not_provided goal provider = ap (λ (b : Bool). goal.custom && not b) provider ∙ and_false goal.custom
 
@@ -197,6 +68,7 @@ asked_sends known about number goes h = by about goes h
     by (op.Read (subject.Goal own)) is h = at (op.Read (subject.Goal own)) own is h
     by _ is h = absurd (let e : None ≡ Some number = is in cc)
 
+-- an operation that is wanted is asked for
 wanted_asked : (known : Known) (about : Op) → is_wanted_op known about ≡ true → is_asked known about ≡ true
 wanted_asked known about h = and_right (not (was_begun known.history about)) (is_asked known about) h
 
@@ -232,6 +104,7 @@ none_due known about lane number goal only provider due goes =
     let never : some_passes (same_op about) (op_of_goal known number found.0 found.1) ≡ false = ap (some_passes (same_op about)) none in
     absurd (let e : true ≡ false = sym sends ∙ never in cc)
 
+-- a number that is the one wanted
 is_row_some : (o : Option ℕ) (number : ℕ) → is_row o number ≡ true → o ≡ Some number
 is_row_some None number h = absurd (let e : false ≡ true = h in cc)
 is_row_some (Some own) number h = ap (λ (n : ℕ). Some n) (equal_numbers own number h)
@@ -250,6 +123,7 @@ found_fails {X = X} test wanted (y ∷ ys) x none h = by (wanted y) (test y) ref
 
 -- ---- a provider's keep
 
+-- the second of two tests that both fail
 or_behind : (a b : Bool) → (a || b) ≡ false → b ≡ false
 or_behind true b h = absurd (let e : true ≡ false = h in cc)
 or_behind false b h = h
@@ -276,24 +150,31 @@ fresh_unrecorded (event ∷ past) number h = by event.what (fresh_unrecorded pas
     by _ rest h = ap (λ (o : Option ℕ). option_or o None) (rest h)
 
 module _ (run : Fixed) (spelling : Spelling) (known : Known) (number : ℕ) (goal : Goal) (one : Decided) (same_run : known.run ≡ run) (provider : is_provider_goal goal ≡ true) where
+  -- the row that the goal claims
   abbrev claimed : Option Entry
   claimed = claimed_row known.run one.claim
 
+  -- whether an errand is one for the goal
   abbrev sent_for : Errand → Bool
   sent_for errand = is_row (goal_of_op errand.op) number
 
+  -- the number has no other goal, if it has one
   abbrev OnlyGoal : List Event → Type 0
   OnlyGoal past = IsOnly (goal_at (known_of run past) number) goal
 
+  -- nothing else is decided of the number, if anything is
   abbrev OnlyDecided : List Event → Type 0
   OnlyDecided past = IsOnly (decided_goal (known_of run past) number) one
 
+  -- so it was before the last event
   goal_before : (event : Event) (past : List Event) → OnlyGoal (event ∷ past) → OnlyGoal past
   goal_before event past only it h = only it (goals-stay run event past number it h)
 
+  -- the same of what is decided
   decided_before : (event : Event) (past : List Event) → OnlyDecided (event ∷ past) → OnlyDecided past
   decided_before event past only it h = only it (decisions-stay run event past number it h)
 
+  -- one event more begins no operation for the goal
   unsent_step : (seat : ℕ) (past : List Event) (what : What) → MayHappen spelling (known_of run past) seat what → OnlyGoal past
       → list_any sent_for (begun_of past) ≡ false → list_any sent_for (cons_option (errand_by seat what) (begun_of past)) ≡ false
   unsent_step seat past (Begun ticket lane about) may only rest = by (is_row (goal_of_op about) number) refl
@@ -309,6 +190,7 @@ module _ (run : Fixed) (spelling : Spelling) (known : Known) (number : ℕ) (goa
   unsent (event ∷ past) legal only =
       unsent_step event.seat past event.what legal.1 (goal_before event past only) (unsent past legal.0 (goal_before event past only))
 
+  -- no ticket is that of an operation for the goal
   unsent_at : (past : List Event) (ticket : ℕ) → list_any sent_for (begun_of past) ≡ false → (about : Op) → op_at past ticket ≡ Some about
       → is_row (goal_of_op about) number ≡ false
   unsent_at past ticket none about h = by (find (λ (errand : Errand). errand.ticket == ticket) (begun_of past)) refl h
@@ -342,6 +224,7 @@ module _ (run : Fixed) (spelling : Spelling) (known : Known) (number : ℕ) (goa
   abbrev HasId : Option Result → Option ℕ → Type 0
   HasId o fresh = (result : Result) × (o ≡ Some result) × (result.id ≡ kept_provider_id claimed fresh) × (is_some (kept_provider_id claimed fresh) ≡ true)
 
+  -- what the keeps of a history give
   abbrev kept : List Event → Option Result
   kept past = kept_in known number goal one past
 
@@ -384,6 +267,7 @@ module _ (run : Fixed) (spelling : Spelling) (known : Known) (number : ℕ) (goa
   kept_before : (past : List Event) → HasId (kept past) (fresh_of past number) → HasId (kept past) (option_or (fresh_of past number) None)
   kept_before past h = subst (λ (o : Option ℕ). HasId (kept past) o) (sym (or_none (fresh_of past number))) h
 
+  -- one event more leaves the goal kept with its id, or keeps it so
   kept_step : (seat : ℕ) (past : List Event) (what : What) → MayHappen spelling (known_of run past) seat what → OnlyGoal past → OnlyDecided past
       → list_any sent_for (begun_of past) ≡ false
       → (has_number (recorded_of past) number ≡ true → HasId (kept past) (fresh_of past number))
@@ -400,6 +284,7 @@ module _ (run : Fixed) (spelling : Spelling) (known : Known) (number : ℕ) (goa
       kept_before past (rest (answer_records_other past ticket said none h))
   kept_step seat past _ may only_goal only_decided none rest h = kept_before past (rest h)
 
+  -- a recorded provider was kept, with the id by which references name it
   kept_found : (past : List Event) → IsLegal run spelling past → OnlyGoal past → OnlyDecided past → has_number (recorded_of past) number ≡ true
       → HasId (kept past) (fresh_of past number)
   kept_found [] legal only_goal only_decided h = absurd (let e : false ≡ true = h in cc)
@@ -407,10 +292,6 @@ module _ (run : Fixed) (spelling : Spelling) (known : Known) (number : ℕ) (goa
       kept_step event.seat past event.what legal.1 (goal_before event past only_goal) (decided_before event past only_decided)
       (unsent past legal.0 (goal_before event past only_goal))
       (kept_found past legal.0 (goal_before event past only_goal) (decided_before event past only_decided)) h
-
--- what is there is the only one
-pub only_there : {X : Type 0} (o : Option X) (x : X) → o ≡ Some x → IsOnly o x
-only_there o x h y is = let e : Some y ≡ Some x = sym is ∙ h in cc
 
 -- the entry of a recorded provider has the id by which references name it
 pub provider-id : (run : Fixed) (spelling : Spelling) (history : List Event) (number : ℕ) (goal : Goal) (one : Decided) (result : Result)

@@ -113,12 +113,15 @@ module _ (known : Known) (number : ℕ) (goal : Goal) (one : Decided) where
   abbrev answered_in : List Closed → Option Result
   answered_in answers = first_some (result_answered known number one) answers
 
+  -- whether the history or its answers tell what recorded the goal
   abbrev is_found : List Event → Bool
   is_found past = is_some (kept_in past) || is_some (answered_in (answers_of past))
 
+  -- a history that records the goal tells what recorded it
   abbrev Finds : List Event → Type 0
   Finds past = has_number (recorded_of past) number ≡ true → is_found past ≡ true
 
+  -- an answer that records the goal gives its result
   closed_finds : (past : List Event) (closed : Closed) → Finds past
       → has_number (cons_option (recorded_by_reply closed) (recorded_of past)) number ≡ true
       → (is_some (kept_in past) || is_some (option_or (result_answered known number one closed) (answered_in (answers_of past)))) ≡ true
@@ -141,6 +144,7 @@ module _ (known : Known) (number : ℕ) (goal : Goal) (one : Decided) where
       by true is None h = rest h
       by true is (Some other) h = same (other == number) is h
 
+  -- so does one event more
   step_finds : (past : List Event) (what : What) → Finds past
       → has_number (cons_option (recorded_by past what) (recorded_of past)) number ≡ true
       → (is_some (option_or (result_kept known number goal one what) (kept_in past))
@@ -218,6 +222,7 @@ told_stands known goal one result (Some outputs) = record {
   property_dependencies = refl;
 }
 
+-- the entry, before outputs are told of it
 entry_is : (known : Known) (number : ℕ) (goal : Goal) (one : Decided) (result : Result)
     → goal_at known number ≡ Some goal → decided_goal known number ≡ Some one → recording_of known number goal one ≡ Some result
     → entry_of known number ≡ Some (goal_entry known goal one result)
@@ -273,9 +278,11 @@ final_not_keep turn choice h = by (is_refused choice) (option_or (chain_refusal 
     by false None = h
     by false (Some problem) = refl
 
+-- what is decided to be kept is kept over a row
 abbrev pub KeepsClaim : Fixed → Decided → Type 0
 KeepsClaim run one = is_keep one.decision ≡ true → is_some (claimed_row run one.claim) ≡ true
 
+-- so it is at a goal's turn
 decided_keeps : (turn : Turn) (checked : Pairs) (diff : Option Diffed) → KeepsClaim turn.run (decided_by turn checked diff)
 decided_keeps turn checked diff h = by (claim_at turn) refl
   where
@@ -288,6 +295,7 @@ decided_keeps turn checked diff h = by (claim_at turn) refl
         ∙ table_not_keep turn.goal (change_at turn) checked diff) in
         absurd (let e : true ≡ false = sym h ∙ none in cc)
 
+-- so it is once the turn's check and diff have come
 turn_keeps : (turn : Turn) (one : Decided) → decided_at turn ≡ Some one → KeepsClaim turn.run one
 turn_keeps turn one h = by (checked_at turn) (diff_at turn) h
   where
@@ -299,6 +307,7 @@ turn_keeps turn one h = by (checked_at turn) (diff_at turn) h
         let same : decided_by turn fields diff ≡ one = cc in
         subst (λ (it : Decided). KeepsClaim turn.run it) same (decided_keeps turn fields diff)
 
+-- so it is of the next goal
 next_keeps : (run : Fixed) (answers : List Closed) (earlier : List Goal) (before : List Decided) (goal : Goal) (one : Decided)
     → decided_next run answers earlier before goal ≡ Some one → KeepsClaim run one
 next_keeps run answers earlier before goal one h = by (length before == length earlier) h
@@ -307,6 +316,7 @@ next_keeps run answers earlier before goal one h = by (length before == length e
     by true h = turn_keeps (turn_of run answers earlier before goal) one h
     by false h = absurd (let e : None ≡ Some one = h in cc)
 
+-- so it is of each decided goal
 each_keeps : (run : Fixed) (answers : List Closed) (goals : List Goal) (number : ℕ) (one : Decided)
     → numbered (decided_of run answers goals) number ≡ Some one → KeepsClaim run one
 each_keeps run answers [] number one h = absurd (let e : None ≡ Some one = h in cc)
@@ -336,6 +346,7 @@ keep_has_claim run history number one h =
 
 -- ---- the id that a keep gives to a provider
 
+-- the id of the result that a provider's keep gives
 pub keep_id : (goal : Goal) (row : Option Entry) (one : Decided) (fresh : Option ℕ) → is_provider_goal goal ≡ true
     → (is_keep one.decision ≡ true → is_some row ≡ true) → (result_of_keep goal row one fresh).id ≡ kept_provider_id row fresh
 keep_id goal row one fresh provider keeps = by (is_keep one.decision) refl
