@@ -56,7 +56,7 @@ below_length row count h = grind (arith, nat_tests)
 module _ (known : Known) (later earlier : ℕ) (refers : refers_to (rows_of known.run) later earlier ≡ true)
     (left : is_left known later ≡ true) where
   -- it is left among the rows, and refers to this one
-  depended : has_dependents known earlier ≡ true
+  pub depended : has_dependents known earlier ≡ true
   depended =
       let below : nat_lt later (length (rows_of known.run)) ≡ true =
       (left_parts (nat_lt later (length (rows_of known.run))) (has_number (removed_of known.history) later)

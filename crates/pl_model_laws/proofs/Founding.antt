@@ -136,7 +136,7 @@ module _ (run : Fixed) (spelling : Spelling) (history : List Event) (legal : IsL
   abbrev new_of : List ℕ → List Entry
   new_of older = filter_map (recorded_entry (known_of run history)) (reverse older)
 
-  held : (past : List Event) (number : ℕ) → IsLegal run spelling past → is_recorded (known_of run past) number ≡ true → Held (known_of run past) number
+  pub held : (past : List Event) (number : ℕ) → IsLegal run spelling past → is_recorded (known_of run past) number ≡ true → Held (known_of run past) number
   held past number lawful recorded =
       let there = recorded-held run spelling past number lawful recorded in
       (there.0, there.1, there.2.stands, there.2.decided, there.2.references)
@@ -223,7 +223,7 @@ module _ (run : Fixed) (spelling : Spelling) (history : List Event) (real : is_p
   turned_to reference = record reference { urn = turn reference.urn }
 
   -- a row of the start as it stands now
-  old_is : (place : ℕ) (row : Entry) → slice_get (rows_of run) place ≡ Some row → old_row now place ≡ Some (row_now now place row)
+  pub old_is : (place : ℕ) (row : Entry) → slice_get (rows_of run) place ≡ Some row → old_row now place ≡ Some (row_now now place row)
   old_is place row is = ap (λ (o : Option Entry). option_map (row_now now place) o) (base_row place row is)
 
   old_urn : (place : ℕ) (row : Entry) (urn : List ℕ) → row.urn ≡ urn → has_urn (turn urn) (row_now now place row) ≡ true

@@ -177,9 +177,11 @@ module _ (run : Fixed) (spelling : Spelling) (history : List Event)
       (λ r left z too. apart_from_old n y r z recorded is left too) (left_rows known) left_each))
       numbers recorded_each)
 
+  pub merged_pairs : Pairwise AreApart (new_entries known ++ old_entries known)
+  merged_pairs = pairs-append AreApart (new_entries known) (old_entries known) new_apart old_apart cross
+
   pub merged_apart : KeepsApart (new_entries known ++ old_entries known)
-  merged_apart = pairs-all AreApart (new_entries known ++ old_entries known)
-      (pairs-append AreApart (new_entries known) (old_entries known) new_apart old_apart cross)
+  merged_apart = pairs-all AreApart (new_entries known ++ old_entries known) merged_pairs
 
   pub entries_merged : is_refresh run.mode ≡ false → (state_of run history).entries ≡ new_entries known ++ old_entries known
   entries_merged other =

@@ -1,5 +1,8 @@
 mod Asking
+mod Beginning
 mod Claiming
+mod Covered
+mod Covering
 mod Dependents
 mod Distinct
 mod Founding

@@ -102,7 +102,7 @@ module _ (known : Known) (number : ℕ) where
   sends_read about (subject.Pending at) is h = absurd (let e : None ≡ Some number = is in cc)
 
   -- what is ready on a lane is asked
-  asked_on : (about : Op) (lane : ℕ) → (not (has_problem known) && is_wanted_op known about && is_lane_of known about lane) ≡ true
+  pub asked_on : (about : Op) (lane : ℕ) → (not (has_problem known) && is_wanted_op known about && is_lane_of known about lane) ≡ true
       → is_asked known about ≡ true
   asked_on about lane h =
       and_right _ (is_asked known about)

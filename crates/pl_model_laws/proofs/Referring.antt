@@ -157,7 +157,7 @@ entry_met test row_of (first ∷ others) number row has is passes =
     by false same rest has = ap (λ (b : Bool). b || list_any test (cons_option (row_of first) [])) (rest has)
 
 -- where each passes one test, each passes a weaker one
-all_weaker : {X : Type 0} (p q : X → Bool) → ((x : X) → p x ≡ true → q x ≡ true) → (xs : List X) → list_all p xs ≡ true → list_all q xs ≡ true
+pub all_weaker : {X : Type 0} (p q : X → Bool) → ((x : X) → p x ≡ true → q x ≡ true) → (xs : List X) → list_all p xs ≡ true → list_all q xs ≡ true
 all_weaker p q weaker [] h = refl
 all_weaker p q weaker (x ∷ xs) h =
     ap (λ (b : Bool). b && list_all q xs) (weaker x (and_left (p x) (list_all p xs) h)) ∙ all_weaker p q weaker xs (and_right (p x) (list_all p xs) h)
@@ -184,7 +184,7 @@ pub record MeetsReferences (rows : List Entry) (row : Entry) : Type 0 where
   pub property_dependencies : list_all (λ pair. list_all (λ urn. list_any (has_urn urn) rows) pair.1) row.property_dependencies ≡ true
 
 -- a row with a URN and an id is the provider that the two name
-is_named : (text own : List ℕ) (row : Entry) → row.urn ≡ text → row.id ≡ Some own → is_provider (record { urn = text; id = own }) row ≡ true
+pub is_named : (text own : List ℕ) (row : Entry) → row.urn ≡ text → row.id ≡ Some own → is_provider (record { urn = text; id = own }) row ≡ true
 is_named text own row same_urn same_id =
     ap (λ (urn : List ℕ). bytes_eq urn text && is_id row.id own) same_urn
     ∙ ap (λ (b : Bool). b && is_id row.id own) (bytes_same text)
@@ -192,7 +192,7 @@ is_named text own row same_urn same_id =
     ∙ bytes_same own
 
 -- the reference to a provider is met where a row is the one that its URN and its id name
-reference_met : (known : Known) (own : ℕ) (other : Goal) (text : List ℕ) (rows : List Entry) → goal_at known own ≡ Some other
+pub reference_met : (known : Known) (own : ℕ) (other : Goal) (text : List ℕ) (rows : List Entry) → goal_at known own ≡ Some other
     → provider_id known own ≡ Some text → list_any (is_provider (record { urn = other.urn; id = text })) rows ≡ true
     → list_all (is_met rows) (optional_wants Provider (reference_to known own)) ≡ true
 reference_met known own other text rows there named met =

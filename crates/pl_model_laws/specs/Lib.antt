@@ -2,3 +2,4 @@ pub mod Laws
 pub mod Apart
 pub mod Order
 pub mod Soundness
+pub mod Covered

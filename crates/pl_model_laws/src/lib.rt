@@ -16,4 +16,4 @@ pub use order::{
     sent_after_references,
 };
 pub use pl_model;
-pub use soundness::states_sound;
+pub use soundness::{begun_covered, states_sound};
