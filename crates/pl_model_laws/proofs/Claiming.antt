@@ -104,6 +104,7 @@ pub record Made (run : Fixed) (answers : List Closed) (goals : List Goal) (decid
   pub stands : numbered goals number ≡ Some goal
   pub behind : Grown (one ∷ before) decided
   pub count : length before ≡ number
+  pub level : length earlier ≡ number
   pub made : decided_at (turn_of run answers earlier before goal) ≡ Some one
 
 module _ (run : Fixed) (answers : List Closed) where
@@ -116,6 +117,7 @@ module _ (run : Fixed) (answers : List Closed) where
     stands = numbered_more newest goals number h.goal h.stands;
     behind = grown_by o (one ∷ h.before) decided h.behind;
     count = h.count;
+    level = h.level;
     made = h.made;
   }
 
@@ -138,6 +140,7 @@ module _ (run : Fixed) (answers : List Closed) where
             stands = subst (λ (n : ℕ). numbered (goal ∷ earlier) n ≡ Some goal) far (numbered_first goal earlier);
             behind = grown_not (one ∷ decided_of run answers earlier);
             count = count;
+            level = far;
             made = h;
           }
       by false is h = absurd (let e : None ≡ Some one = h in cc)
@@ -187,7 +190,7 @@ was-made run history number one h =
         ∙ ap (λ (fixed : Fixed). decided_of fixed (answers_of (known_of run history).history) (known_of run history).goals) (run_of run history)
 
 -- what a decision is made of
-decided_parts : (turn : Turn) (one : Decided) → decided_at turn ≡ Some one
+pub decided_parts : (turn : Turn) (one : Decided) → decided_at turn ≡ Some one
     → (checked : Pairs) × (diff : Option Diffed) × (decided_by turn checked diff ≡ one)
 decided_parts turn one h = by (checked_at turn) (diff_at turn) h
   where
@@ -214,7 +217,7 @@ pub record MayClaim (run : Fixed) (before : List Decided) (goal : Goal) (row : �
   pub unchained : is_chained run before row ≡ false
 
 -- what is found among numbered ones passes, and stands at its number
-found_at : {X : Type 0} (test : ℕ × X → Bool) (n : ℕ) (xs : List X) (found : ℕ × X) → find test (enumerate_from n xs) ≡ Some found
+pub found_at : {X : Type 0} (test : ℕ × X → Bool) (n : ℕ) (xs : List X) (found : ℕ × X) → find test (enumerate_from n xs) ≡ Some found
     → (k : ℕ) × (test found ≡ true) × (found.0 ≡ n + k) × (slice_get xs k ≡ Some found.1)
 found_at test n [] found h = absurd (let e : None ≡ Some found = h in cc)
 found_at {X = X} test n (x ∷ xs) found h = by (test (n, x)) refl (found_at test (n + 1) xs found) h

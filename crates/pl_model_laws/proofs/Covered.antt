@@ -1,7 +1,6 @@
 -- The state with an operation begun covers it.
-use Rattle.std.proofs.Common.{◌≡◌, ℕ, Bool, true, false, not, ◌&&◌, List, [], ◌∷◌, ◌++◌, option_and_then, option_map, slice_get, Contains, Option, Some, None, refl, sym, ◌∙◌, ap, subst}
+use Rattle.std.proofs.Common.{◌≡◌, ℕ, true, false, not, ◌&&◌, List, [], ◌∷◌, ◌++◌, option_and_then, option_map, slice_get, Option, Some, None, refl, sym, ◌∙◌, ap, subst}
 use Rattle.pl_urn.specs.Grammar.{IsScope}
-use Rattle.pl_state.specs.Chain.{some_passes}
 use Rattle.pl_state.specs.Sound.{IsSound}
 use Rattle.pl_state.specs.declared.entry.Entry.{Entry}
 use Rattle.pl_state.specs.declared.goal.Goal.{Goal}
@@ -13,20 +12,18 @@ use Rattle.pl_events.specs.declared.event.What.{What}
 use Rattle.pl_events.specs.declared.event.What.TheVariants.{Begun}
 use Rattle.pl_events.specs.declared.operation.Op.{Op}
 use Rattle.pl_events.specs.declared.operation.Op.TheVariants as op
-use Rattle.pl_events.specs.declared.operation.Subject.{Subject}
 use Rattle.pl_events.specs.declared.operation.Subject.TheVariants as subject
 use Rattle.pl_model.specs.Run.{Fixed, Spelling, is_preview, is_refresh, rows_of}
 use Rattle.pl_model.specs.Claims.{Decided}
-use Rattle.pl_model.specs.Covers.{Covers, CoversKind, finds_references}
-use Rattle.pl_model.specs.Due.{has_open, is_asked, is_delete_ready, is_due_on, is_lane_of, is_ready_on, is_removable, is_wanted_op, passes_limit, to_send}
-use Rattle.pl_model.specs.Entries.{goal_entry, new_entries, old_entries, old_row, result_with, row_now}
+use Rattle.pl_model.specs.Covers.{Covers, CoversKind}
+use Rattle.pl_model.specs.Due.{is_asked, is_delete_ready, is_due_on, is_lane_of, is_ready_on, is_removable, is_wanted_op, passes_limit, to_send}
+use Rattle.pl_model.specs.Entries.{goal_entry, new_entries, old_entries, result_with, row_now}
 use Rattle.pl_model.specs.History.{known_of}
-use Rattle.pl_model.specs.Known.{Known, decided_goal, goal_at, has_problem}
+use Rattle.pl_model.specs.Known.{Known, decided_goal, has_problem}
 use Rattle.pl_model.specs.Legal.{IsLegal, MayHappen}
-use Rattle.pl_model.specs.Recording.{goal_of_op}
 use Rattle.pl_model.specs.Rows.{is_sent, row_at}
 use Rattle.pl_model.specs.Saves.{is_covered}
-use Rattle.pl_model.specs.State.{creating_entry, pending_for, pending_with, state_of, updating_entry, updating_result}
+use Rattle.pl_model.specs.State.{pending_for, pending_with, state_of, updating_result}
 use Rattle.pl_model_laws.specs.Soundness.{NameProviders}
 use Rattle.pl_model_laws.proofs.Beginning.{begun-entries, begun-pending}
 use Rattle.pl_model_laws.proofs.Covering.{deletion-found, references-found, row-found}
@@ -35,7 +32,7 @@ use Rattle.pl_model_laws.proofs.Keeping.{entries_merged}
 use Rattle.pl_model_laws.proofs.Once.{and_left, and_right}
 use Rattle.pl_model_laws.proofs.Recorded.{asked_on, due_sent}
 use Rattle.pl_model_laws.proofs.Sounding.{sound-apart}
-use Rattle.pl_model_laws.proofs.Staying.{IsSent, passes_some}
+use Rattle.pl_model_laws.proofs.Staying.{passes_some}
 
 abbrev pending_of_kind : PendingKind → Entry → Pending
 pending_of_kind kind entry = record { kind = kind; entry = entry }

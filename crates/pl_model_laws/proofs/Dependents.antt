@@ -23,7 +23,7 @@ use Rattle.pl_model_laws.proofs.Leaving.{left-before, left_parts}
 use Rattle.pl_model_laws.proofs.Once.{and_left, and_right, equal_ops, not_true}
 
 -- a number within a range is found there
-number_within : (test : ℕ → Bool) (a n k : ℕ) → a ≤ k → k < a + n → test k ≡ true → list_any test (range_with_len a n) ≡ true
+pub number_within : (test : ℕ → Bool) (a n k : ℕ) → a ≤ k → k < a + n → test k ≡ true → list_any test (range_with_len a n) ≡ true
 number_within test a zero k low high h = absurd (omega arith)
 number_within test a (suc n) k low high h =
     by (eq-or-lt_of_le low) (λ later. number_within test (a + 1) n k (omega arith) (omega arith) h)

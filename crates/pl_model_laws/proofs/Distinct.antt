@@ -50,11 +50,11 @@ pub some_equal : {X : Type 0} (x y : X) → Some x ≡ Some y → x ≡ y
 some_equal x y h = cc
 
 -- where neither of two problems stands
-or_none : {X : Type 0} (first second : Option X) → option_or first second ≡ None → (first ≡ None) × (second ≡ None)
+pub or_none : {X : Type 0} (first second : Option X) → option_or first second ≡ None → (first ≡ None) × (second ≡ None)
 or_none None second h = (refl, h)
 or_none (Some x) second h = absurd (let e : Some x ≡ None = h in cc)
 
-not_refused : (b : Bool) (problem : Problem) → refused_if b problem ≡ None → b ≡ false
+pub not_refused : (b : Bool) (problem : Problem) → refused_if b problem ≡ None → b ≡ false
 not_refused true problem h = absurd (let e : Some problem ≡ None = h in cc)
 not_refused false problem h = refl
 

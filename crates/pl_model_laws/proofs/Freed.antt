@@ -47,7 +47,7 @@ free-stays run event past number h = record {
 }
 
 -- a number of a range does not pass a test that none of them passes
-range_lacks : (p : ℕ → Bool) (a n k : ℕ) → a ≤ k → k < a + n → list_any p (range_with_len a n) ≡ false → p k ≡ false
+pub range_lacks : (p : ℕ → Bool) (a n k : ℕ) → a ≤ k → k < a + n → list_any p (range_with_len a n) ≡ false → p k ≡ false
 range_lacks p a zero k low high h = absurd (omega arith)
 range_lacks p a (suc n) k low high h = by (p a) refl h (eq-or-lt_of_le low)
     (λ later none. range_lacks p (a + 1) n k (omega arith) (omega arith) none)

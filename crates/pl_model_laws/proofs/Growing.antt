@@ -214,7 +214,7 @@ decided_short run answers (goal ∷ earlier) =
     by None short = omega arith
     by (Some one) short = omega arith
 
-length_added : {X : Type 0} (added xs : List X) → length (added ++ xs) ≡ length added + length xs
+pub length_added : {X : Type 0} (added xs : List X) → length (added ++ xs) ≡ length added + length xs
 length_added [] xs = omega arith
 length_added (x ∷ added) xs = let e = length_added added xs in omega arith
 

@@ -45,15 +45,15 @@ claim_is None row h = absurd (let e : false ≡ true = h in cc)
 claim_is (Some own) row h = ap (λ (number : ℕ). Some number) (equal_numbers own row h)
 
 -- a row that is not to be deleted
-abbrev Unmarked : Fixed → ℕ → Type 0
+abbrev pub Unmarked : Fixed → ℕ → Type 0
 Unmarked run row = (entry : Entry) × (slice_get (rows_of run) row ≡ Some entry) × (entry.doomed ≡ false)
 
 -- what a claim needs: no goal before claims the row, and it is not to be deleted
-abbrev MayClaim : Fixed → List Decided → ℕ → Type 0
+abbrev pub MayClaim : Fixed → List Decided → ℕ → Type 0
 MayClaim run before row = (is_claimed before row ≡ false) × Unmarked run row
 
 -- no row is claimed twice, and none that is to be deleted
-abbrev ClaimsApart : Fixed → List Decided → Type 0
+abbrev pub ClaimsApart : Fixed → List Decided → Type 0
 ClaimsApart run [] = Unit
 ClaimsApart run (one ∷ before) = ClaimsApart run before × ((row : ℕ) → is_row one.claim row ≡ true → MayClaim run before row)
 
@@ -163,7 +163,7 @@ decided_apart run answers (goal ∷ earlier) =
         (rest, λ row claims. next_may run answers earlier (decided_of run answers earlier) goal one row is claims)
 
 -- nor in what a history tells
-known-apart : (run : Fixed) (history : List Event) → ClaimsApart run (known_of run history).decided
+pub known-apart : (run : Fixed) (history : List Event) → ClaimsApart run (known_of run history).decided
 known-apart run history =
     subst (λ (ones : List Decided). ClaimsApart run ones) (sym (decided_as run history))
     (subst (λ (fixed : Fixed).
@@ -191,7 +191,7 @@ claimed_of (newest ∷ earlier) number row one h claims = by (length earlier == 
         ap (λ (b : Bool). is_row newest.claim row || b) (rest h claims) ∙ or_true (is_row newest.claim row)
 
 -- the goal that claims a row is the only one
-claimer_is : (run : Fixed) (decided : List Decided) (number row : ℕ) (one : Decided) → ClaimsApart run decided
+pub claimer_is : (run : Fixed) (decided : List Decided) (number row : ℕ) (one : Decided) → ClaimsApart run decided
     → numbered decided number ≡ Some one → is_row one.claim row ≡ true → claimer_of decided row ≡ Some number
 claimer_is run [] number row one apart h claims = absurd (let e : None ≡ Some one = h in cc)
 claimer_is run (newest ∷ earlier) number row one apart h claims =
@@ -258,7 +258,7 @@ claimer_passes known row number test claims recorded =
     ∙ ap (λ (b : Bool). some_passes test (only_if b (Some number))) recorded
 
 -- the recorded goal that claims a row and passes a test
-claimer_parts : (known : Known) (row : ℕ) (test : ℕ → Bool) → some_passes test (recorded_claimer known row) ≡ true
+pub claimer_parts : (known : Known) (row : ℕ) (test : ℕ → Bool) → some_passes test (recorded_claimer known row) ≡ true
     → (number : ℕ) × (claimer_of known.decided row ≡ Some number) × (is_recorded known number ≡ true) × (test number ≡ true)
 claimer_parts known row test h = by (claimer_of known.decided row) refl h
   where
@@ -338,7 +338,7 @@ module _ (run : Fixed) (event : Event) (past : List Event) where
       (recordings-stay run event past number)
 
   -- a row that was taken out stays so
-  removed_more : (row : ℕ) → has_number (removed_of past) row ≡ true → has_number (removed_of (event ∷ past)) row ≡ true
+  pub removed_more : (row : ℕ) → has_number (removed_of past) row ≡ true → has_number (removed_of (event ∷ past)) row ≡ true
   removed_more row h = by (removed_by past event.what)
     where
       by : (o : Option ℕ) → has_number (cons_option o (removed_of past)) row ≡ true
@@ -392,7 +392,7 @@ module _ (run : Fixed) (event : Event) (past : List Event) where
 -- ---- a row keeps its URN until it is marked
 
 -- the rows that a history tells of are those of the run
-row_of_run : (run : Fixed) (history : List Event) (row : ℕ) (found : Option Entry)
+pub row_of_run : (run : Fixed) (history : List Event) (row : ℕ) (found : Option Entry)
     → row_at (known_of run history) row ≡ found → slice_get (rows_of run) row ≡ found
 row_of_run run history row found h =
     subst (λ (fixed : Fixed). slice_get (rows_of fixed) row ≡ found) (run_of run history) h
@@ -546,7 +546,7 @@ unturned urn (turning ∷ all) entry others is =
     (ap (λ (text : List ℕ). turned turning text) is ∙ ap (λ (b : Bool). if b then turning.new else urn) others.0)
 
 -- two rows with one URN that are not to be deleted are one row
-same_row : (rows : List Entry) → KeepsApart rows → (i j : ℕ) (one other : Entry)
+pub same_row : (rows : List Entry) → KeepsApart rows → (i j : ℕ) (one other : Entry)
     → slice_get rows i ≡ Some one → slice_get rows j ≡ Some other → one.doomed ≡ false → other.doomed ≡ false
     → one.urn ≡ other.urn → i ≡ j
 same_row rows apart i j one other first second stays too same = by (cases_lt i j) (cases_lt j i)

@@ -127,7 +127,7 @@ equal_subjects (subject.Row a) (subject.Row b) h = ap subject.Row (equal_numbers
 equal_subjects (subject.Pending a) (subject.Pending b) h = ap subject.Pending (equal_numbers a b h)
 equal_subjects _ _ h = absurd (let e : false ≡ true = h in cc)
 
-equal_sources : (a b : Source) → same_source a b ≡ true → a ≡ b
+pub equal_sources : (a b : Source) → same_source a b ≡ true → a ≡ b
 equal_sources (source.Goal a) (source.Goal b) h = ap source.Goal (equal_numbers a b h)
 equal_sources (source.Row a) (source.Row b) h = ap source.Row (equal_numbers a b h)
 equal_sources _ _ h = absurd (let e : false ≡ true = h in cc)
@@ -148,7 +148,7 @@ wanted_unbegun : (known : Known) (about : Op) → is_wanted_op known about ≡ t
 wanted_unbegun known about h = not_true (was_begun known.history about) (and_left _ (is_asked known about) h)
 
 -- what is ready on a lane was not begun, a configuration aside
-ready_unbegun : (known : Known) (about : Op) (lane : ℕ) → is_configure about ≡ false → is_ready_on known about lane ≡ true → was_begun known.history about ≡ false
+pub ready_unbegun : (known : Known) (about : Op) (lane : ℕ) → is_configure about ≡ false → is_ready_on known about lane ≡ true → was_begun known.history about ≡ false
 ready_unbegun known (op.CheckConfig about) lane other h =
     wanted_unbegun known (op.CheckConfig about) (and_right (not (has_problem known)) _ (and_left _ (is_next_lane known lane) h))
 ready_unbegun known (op.Configure provider) lane other h = absurd (let e : true ≡ false = other in cc)

@@ -38,7 +38,7 @@ module _ (known : Known) (number : ℕ) where
       (goal.0, one.0, goal.1, one.1, one.2)
 
   -- the references of what can be recorded are, and it is not
-  placed_references : (goal : Goal) (one : Decided) → is_placed known number goal one ≡ true → references_recorded known goal ≡ true
+  pub placed_references : (goal : Goal) (one : Decided) → is_placed known number goal one ≡ true → references_recorded known goal ≡ true
   placed_references goal one h =
       and_right (not (is_refused one.decision) && not (is_recorded known number)) _
       (and_left _ (is_preview known.run.mode || urn_is_free known goal one) h)
@@ -231,7 +231,7 @@ one_pass test one weaker (x ∷ xs) h = by (test x) refl (one x) refl (one_pass 
     by false is false at rest h = rest h
 
 -- where two tests pass, but never together, a test that is weaker than both passes twice
-two_pass : {X : Type 0} (test one other : X → Bool)
+pub two_pass : {X : Type 0} (test one other : X → Bool)
     → ((x : X) → one x ≡ true → test x ≡ true) → ((x : X) → other x ≡ true → test x ≡ true)
     → ((x : X) → one x ≡ true → other x ≡ false)
     → (xs : List X) → list_any one xs ≡ true → list_any other xs ≡ true → 2 ≤ length (filter test xs)

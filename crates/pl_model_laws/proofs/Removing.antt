@@ -89,7 +89,7 @@ first_of_two true b h none = refl
 first_of_two false b h none = absurd (let e : true ≡ false = sym h ∙ none in cc)
 
 -- what stands behind one more stands behind
-grown_behind : {X : Type 0} (x : X) (xs ys : List X) → Grown (x ∷ xs) ys → Grown xs ys
+pub grown_behind : {X : Type 0} (x : X) (xs ys : List X) → Grown (x ∷ xs) ys → Grown xs ys
 grown_behind x xs ys grown = (grown.0 ++ x ∷ [], grown.1 ∙ sym (append_assoc grown.0 (x ∷ []) xs))
 
 -- a number of a range passes what all of them pass

@@ -53,7 +53,7 @@ some_either (Some x) second h = refl
 -- ---- claims
 
 -- the first goal without a decision has the count of the decisions for its number
-turn_number : (run : Fixed) (answers : List Closed) (goals : List Goal) (decided : List Decided) (turn : Turn)
+pub turn_number : (run : Fixed) (answers : List Closed) (goals : List Goal) (decided : List Decided) (turn : Turn)
     → turn_in run answers goals decided ≡ Some turn → number_at turn ≡ length decided
 turn_number run answers [] decided turn h = absurd (let e : None ≡ Some turn = h in cc)
 turn_number run answers (goal ∷ earlier) decided turn h =

@@ -254,7 +254,7 @@ pub there-stays : (run : Fixed) (event : Event) (past : List Event) (number : �
 there-stays run event past number h = (h.0, h.1, placed-stays run event past number h.0 h.1 h.2)
 
 -- the provider of a goal whose references are recorded is recorded
-provider_recorded : (known : Known) (goal : Goal) (n : ℕ) → references_recorded known goal ≡ true → goal.provider ≡ Some n
+pub provider_recorded : (known : Known) (goal : Goal) (n : ℕ) → references_recorded known goal ≡ true → goal.provider ≡ Some n
     → is_recorded known n ≡ true
 provider_recorded known goal n h is =
     subst (λ (o : Option ℕ). none_or (is_recorded known) o ≡ true) is
@@ -310,7 +310,7 @@ same_need known number a b one other first second =
 
 -- ---- errands
 
-same_source_self : (a : Source) → same_source a a ≡ true
+pub same_source_self : (a : Source) → same_source a a ≡ true
 same_source_self (source.Goal a) = same_number a
 same_source_self (source.Row a) = same_number a
 

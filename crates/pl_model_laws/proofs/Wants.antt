@@ -29,7 +29,7 @@ pub each_map : {X Y : Type 0} (f : X → Y) (P : Y → Type 0) (xs : List X) →
 each_map f P [] h = tt
 each_map f P (x ∷ xs) h = (h.0, each_map f P xs h.1)
 
-each_flat : {X Y : Type 0} (f : X → List Y) (P : Y → Type 0) (xs : List X) → Each (λ x. Each P (f x)) xs → Each P (flat_map f xs)
+pub each_flat : {X Y : Type 0} (f : X → List Y) (P : Y → Type 0) (xs : List X) → Each (λ x. Each P (f x)) xs → Each P (flat_map f xs)
 each_flat f P [] h = tt
 each_flat f P (x ∷ xs) h = each-append P (f x) (flat_map f xs) h.0 (each_flat f P xs h.1)
 
@@ -54,19 +54,19 @@ met_by_kinds before row h =
     (each_map Dependency (λ (want : Missing). is_met before want ≡ true) (property_urns row)
     (each_flat (λ (pair : List ℕ × List (List ℕ)). pair.1) (λ urn. list_any (has_urn urn) before ≡ true) row.property_dependencies h.property_dependencies))))
 
-each_front : {X : Type 0} (P : X → Type 0) (xs ys : List X) → Each P (xs ++ ys) → Each P xs
+pub each_front : {X : Type 0} (P : X → Type 0) (xs ys : List X) → Each P (xs ++ ys) → Each P xs
 each_front P [] ys h = tt
 each_front P (x ∷ xs) ys h = (h.0, each_front P xs ys h.1)
 
-each_back : {X : Type 0} (P : X → Type 0) (xs ys : List X) → Each P (xs ++ ys) → Each P ys
+pub each_back : {X : Type 0} (P : X → Type 0) (xs ys : List X) → Each P (xs ++ ys) → Each P ys
 each_back P [] ys h = h
 each_back P (x ∷ xs) ys h = each_back P xs ys h.1
 
-each_unmap : {X Y : Type 0} (f : X → Y) (P : Y → Type 0) (xs : List X) → Each P (map f xs) → Each (λ x. P (f x)) xs
+pub each_unmap : {X Y : Type 0} (f : X → Y) (P : Y → Type 0) (xs : List X) → Each P (map f xs) → Each (λ x. P (f x)) xs
 each_unmap f P [] h = tt
 each_unmap f P (x ∷ xs) h = (h.0, each_unmap f P xs h.1)
 
-each_unflat : {X Y : Type 0} (f : X → List Y) (P : Y → Type 0) (xs : List X) → Each P (flat_map f xs) → Each (λ x. Each P (f x)) xs
+pub each_unflat : {X Y : Type 0} (f : X → List Y) (P : Y → Type 0) (xs : List X) → Each P (flat_map f xs) → Each (λ x. Each P (f x)) xs
 each_unflat f P [] h = tt
 each_unflat f P (x ∷ xs) h = (each_front P (f x) (flat_map f xs) h, each_unflat f P xs (each_back P (f x) (flat_map f xs) h))
 

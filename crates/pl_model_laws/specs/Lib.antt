@@ -3,3 +3,4 @@ pub mod Apart
 pub mod Order
 pub mod Soundness
 pub mod Covered
+pub mod Quiet

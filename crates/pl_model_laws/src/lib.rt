@@ -4,6 +4,7 @@
 mod apart;
 mod laws;
 mod order;
+mod quiet;
 mod soundness;
 
 pub use apart::{goals_apart, states_apart};
@@ -16,4 +17,5 @@ pub use order::{
     sent_after_references,
 };
 pub use pl_model;
+pub use quiet::quiet_is_done;
 pub use soundness::{begun_covered, states_sound};

@@ -1,0 +1,120 @@
+-- Where nothing is out, due or over the limit, everything is done.
+use Rattle.std.proofs.Common.{◌≡◌, ◌<◌, ℕ, suc, length, Bool, true, false, not, ◌||◌, List, [], ◌∷◌, option_and_then, slice_get, take, Option, Some, None, is_none, is_some, refl, sym, ◌∙◌, ap, subst}
+use Rattle.std.specs.List.{list_any}
+use Rattle.pl_urn.specs.Grammar.{IsScope}
+use Rattle.pl_reference.specs.declared.reference.ProviderRef.{ProviderRef}
+use Rattle.pl_state.specs.Chain.{last_from, last_place, last_provider, or_else_place, provider_row_of}
+use Rattle.pl_state.specs.Sound.{IsSound, is_provider}
+use Rattle.pl_state.specs.declared.entry.Entry.{Entry}
+use Rattle.pl_state.specs.declared.goal.Goal.{Goal}
+use Rattle.pl_events.specs.declared.event.Event.{Event}
+use Rattle.pl_events.specs.declared.event.What.{What}
+use Rattle.pl_events.specs.declared.event.What.TheVariants.{Told}
+use Rattle.pl_events.specs.Closing.{has_host_end}
+use Rattle.pl_model.specs.Run.{Fixed, Spelling, has_host, is_destroy, is_preview, is_refresh, rows_of}
+use Rattle.pl_model.specs.declared.mode.Mode.{Mode}
+use Rattle.pl_model.specs.declared.mode.Mode.TheVariants.{Up, Preview, Destroy, Refresh}
+use Rattle.pl_model.specs.Claims.{numbered}
+use Rattle.pl_model.specs.Due.{IsQuiet}
+use Rattle.pl_model.specs.History.{goals_after, known_of}
+use Rattle.pl_model.specs.Known.{Known, goal_at, has_problem, host_ended}
+use Rattle.pl_model.specs.Legal.{IsLegal, MayHappen}
+use Rattle.pl_model_laws.specs.Quiet.{IsAllDone, RepliesFit}
+use Rattle.pl_model_laws.proofs.Circling.{everything_done}
+use Rattle.pl_model_laws.proofs.Ending.{end-held, end-trouble}
+use Rattle.pl_model_laws.proofs.Freeing.{urn-ready}
+use Rattle.pl_model_laws.proofs.Growing.{run_of}
+use Rattle.pl_model_laws.proofs.Places.{provided-named, references-ready}
+use Rattle.pl_model_laws.proofs.Replying.{goal-recorded, reply-came, row-removed}
+use Rattle.pl_model_laws.proofs.Serving.{lanes-serve, provider-configured}
+use Rattle.pl_model_laws.proofs.Sounding.{sound-apart, sound-back}
+use Rattle.pl_model_laws.proofs.TakenOver.{all-decided}
+use Rattle.pl_model_laws.proofs.Troubles.{lacking-trouble, refused-trouble}
+use Rattle.pl_model_laws.proofs.Wants.{kinds_met}
+use Rattle.pl_model_laws.proofs.Working.{config-serves, no-drop, no-keep}
+
+-- ---- the provider of a row
+
+-- where one of the rows passes there is a last one that does
+last_there : (test : Entry → Bool) (place : ℕ) (rows : List Entry) → list_any test rows ≡ true → is_some (last_from test place rows) ≡ true
+last_there test place [] h = absurd (let e : false ≡ true = h in cc)
+last_there test place (row ∷ rows) h = by (test row) refl (last_from test (suc place) rows) refl h (last_there test (suc place) rows)
+  where
+    by : (b : Bool) → test row ≡ b → (o : Option ℕ) → last_from test (suc place) rows ≡ o → (b || list_any test rows) ≡ true
+        → (list_any test rows ≡ true → is_some (last_from test (suc place) rows) ≡ true)
+        → is_some (or_else_place (last_from test (suc place) rows) (test row) place) ≡ true
+    by b is (Some later) found h rest = rw found refl
+    by true is None found h rest = rw found (rw is refl)
+    by false is None found h rest = absurd (let e : false ≡ true = sym (ap (λ (o : Option ℕ). is_some o) found) ∙ rest h in cc)
+
+some_named : {X : Type 0} (o : Option X) → is_some o ≡ true → (x : X) × (o ≡ Some x)
+some_named None h = absurd (let e : false ≡ true = h in cc)
+some_named (Some x) h = (x, refl)
+
+-- in a sound list each row that names a provider finds its row
+provider_there : (rows : List Entry) (place : ℕ) (row : Entry) → IsSound rows → slice_get rows place ≡ Some row → is_none row.provider ≡ false
+    → (own : ℕ) × (provider_row_of rows place ≡ Some own)
+provider_there rows place row sound here names = by row.provider refl names
+  where
+    by : (o : Option ProviderRef) → row.provider ≡ o → is_none o ≡ false → (own : ℕ) × (provider_row_of rows place ≡ Some own)
+    by None is none = absurd (let e : true ≡ false = none in cc)
+    by (Some reference) is some =
+        let met = (kinds_met (take place rows) row (sound-back rows sound place row here)).provider reference is in
+        let found = some_named (last_place (is_provider reference) (take place rows)) (last_there (is_provider reference) 0 (take place rows) met) in (
+          found.0,
+          ap (λ (o : Option Entry). option_and_then (λ (it : Entry). last_provider it.provider (take place rows)) o) here
+              ∙ ap (λ (o : Option ProviderRef). last_provider o (take place rows)) is ∙ found.1,
+        )
+
+-- ---- a run with a goal has a host
+
+destroys_none : (mode : Mode) (ended : Bool) → (not (has_host mode) || ended) ≡ false → is_destroy mode ≡ false
+destroys_none Up ended h = refl
+destroys_none Preview ended h = refl
+destroys_none Destroy ended h = absurd (let e : true ≡ false = h in cc)
+destroys_none (Refresh clear imports) ended h = refl
+
+hosted_step : (spelling : Spelling) (known : Known) (seat : ℕ) (what : What) (n : ℕ) (goal : Goal) → MayHappen spelling known seat what
+    → (goal_at known n ≡ Some goal → is_destroy known.run.mode ≡ false) → numbered (goals_after known what) n ≡ Some goal
+    → is_destroy known.run.mode ≡ false
+hosted_step spelling known seat (Told request) n goal may before h = destroys_none known.run.mode (has_host_end known.history) may.host_open
+hosted_step spelling known seat _ n goal may before h = before h
+
+hosted : (run : Fixed) (spelling : Spelling) (history : List Event) (n : ℕ) (goal : Goal) → IsLegal run spelling history
+    → goal_at (known_of run history) n ≡ Some goal → is_destroy run.mode ≡ false
+unfolding known_of
+hosted run spelling [] n goal legal h = absurd (let e : None ≡ Some goal = h in cc)
+hosted run spelling (event ∷ past) n goal legal h =
+    ap (λ (fixed : Fixed). is_destroy fixed.mode) (sym (run_of run past))
+    ∙ hosted_step spelling (known_of run past) event.seat event.what n goal legal.1
+    (λ there. ap (λ (fixed : Fixed). is_destroy fixed.mode) (run_of run past) ∙ hosted run spelling past n goal legal.0 there) h
+
+-- ---- the law
+
+pub quiet-is-done : (run : Fixed) (spelling : Spelling) (history : List Event)
+    → IsScope run.stack → IsScope run.project → is_preview run.mode ≡ false → is_refresh run.mode ≡ false
+    → 0 < run.parallel → RepliesFit spelling → IsSound (rows_of run) → IsLegal run spelling history
+    → host_ended (known_of run history) ≡ true → has_problem (known_of run history) ≡ false → IsQuiet (known_of run history)
+    → IsAllDone (known_of run history)
+quiet-is-done run spelling history stack project real other some fit sound legal ended calm quiet =
+    everything_done run history real other
+    (all-decided run spelling history legal)
+    (λ about plain begun. reply-came run spelling fit history legal calm quiet.closed about begun)
+    (λ about number on begun. goal-recorded run spelling fit history legal calm quiet.closed about number on begun)
+    (λ row begun. row-removed run spelling fit history legal calm quiet.closed row begun)
+    (λ about wanted from wants listed. lanes-serve run spelling fit history legal calm quiet some about wanted from wants listed)
+    (λ n wants low. config-serves (known_of run history) quiet calm n wants low)
+    (λ n begun low. provider-configured run spelling fit history legal calm quiet n begun low)
+    (λ n ready low. no-keep (known_of run history) quiet calm n ready low)
+    (λ row ready low. no-drop (known_of run history) quiet calm row ready
+    (subst (λ (fixed : Fixed). row < length (rows_of fixed)) (sym (run_of run history)) low))
+    (λ n one decided. refused-trouble run history n one calm decided)
+    (λ n one row entry decided first takes at. lacking-trouble run spelling history n row one entry legal calm decided first takes at)
+    (λ n goal before stands. references-ready run history n goal stack project before stands)
+    (λ n goal stands provided. provided-named run history n goal stack project stands provided)
+    (λ n goal one stands decided before gone. urn-ready run spelling history n goal one legal (sound-apart (rows_of run) sound) stands decided before gone)
+    (λ row entry here names. provider_there (rows_of run) row entry sound here names)
+    (λ n goal stands. hosted run spelling history n goal legal stands)
+    ended
+    (λ over row entry doomed at. (end-trouble run history calm over row entry doomed at).1)
+    (λ over later earlier left refers doomed. end-held run history calm over later earlier left refers doomed)

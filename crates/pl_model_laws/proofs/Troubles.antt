@@ -1,0 +1,250 @@
+-- What is refused, and what is to go and lacks its provider, is a problem.
+use Rattle.std.proofs.Common.{◌≡◌, ℕ, ◌≤◌, ◌<◌, Bool, true, false, not, ◌&&◌, ◌||◌, if◌then◌else◌, List, [], ◌∷◌, length, nat_lt, slice_get, Option, Some, None, refl, sym, ◌∙◌, ap, subst, arith, option_map, option_and_then}
+use Rattle.std.proofs.lemmas.Bool.Decides.{nat_tests}
+use Rattle.std.proofs.lemmas.Option.{slice_get_within}
+use Rattle.pl_state.specs.Chain.{some_passes}
+use Rattle.pl_state.specs.declared.entry.Entry.{Entry}
+use Rattle.pl_events.specs.declared.event.Event.{Event}
+use Rattle.pl_decide.specs.declared.decision.Decision.{Decision}
+use Rattle.pl_decide.specs.declared.decision.Decision.TheVariants.{Refused}
+use Rattle.pl_decide.specs.declared.problem.Problem.{Problem}
+use Rattle.pl_decide.specs.declared.problem.Problem.TheVariants as problem
+use Rattle.pl_model.specs.Run.{Fixed, Spelling, rows_of}
+use Rattle.pl_model.specs.Recording.{has_number}
+use Rattle.pl_model.specs.Claims.{Decided, chain_of_goal, claimer_of, first_some, is_chained, is_claimed, is_create_first, is_delete_first, is_row, numbered}
+use Rattle.pl_model.specs.Decisions.{is_refused}
+use Rattle.pl_model.specs.History.{known_of}
+use Rattle.pl_model.specs.Known.{Known, decided_goal, has_problem}
+use Rattle.pl_model.specs.Legal.{IsLegal}
+use Rattle.pl_model.specs.Problems.{has_deleted, is_claimed_beside, lacking_in, lacks_provider, missing_provider, refusal_in}
+use Rattle.pl_model.specs.Rows.{is_marked, is_replaced, row_at, row_numbers, stands_beside, takes_along}
+use Rattle.pl_model_laws.proofs.Calm.{calm-before, decided-grown, first_none, newly-none, no-decision, no-provider, none-decided, option_map_none, range_each}
+use Rattle.pl_model_laws.proofs.Claiming.{claims-allowed, numbered_behind, numbered_passes, numbered_there, passing_number, was-made, where_found}
+use Rattle.pl_model_laws.proofs.Growing.{Grown, numbered_below, or_true, run_of}
+use Rattle.pl_model_laws.proofs.Leaving.{claimer_is, claimer_parts, known-apart}
+use Rattle.pl_model_laws.proofs.Once.{and_left, and_right}
+use Rattle.pl_model_laws.proofs.Removing.{Later, grown_behind, later-before, later-now}
+use Rattle.pl_model_laws.proofs.Staying.{some_same}
+
+-- ---- refusals
+
+-- a decision without a refusal is not refused
+unrefused : (choice : Decision) → refusal_in choice ≡ None → is_refused choice ≡ false
+unrefused (Refused trouble) h = let none : Option Problem = None in absurd (let e : Some trouble ≡ none = h in cc)
+unrefused _ h = refl
+
+-- where no problem stands, no decision is refused
+pub refused-trouble : (run : Fixed) (history : List Event) (n : ℕ) (one : Decided) → has_problem (known_of run history) ≡ false
+    → decided_goal (known_of run history) n ≡ Some one → is_refused one.decision ≡ false
+refused-trouble run [] n one calm h = absurd (none-decided run n one h)
+refused-trouble run (event ∷ past) n one calm h =
+    by (nat_lt n (length (known_of run past).decided)) refl (refused-trouble run past n one (calm-before run event past calm))
+  where
+    by : (b : Bool) → nat_lt n (length (known_of run past).decided) ≡ b
+        → (decided_goal (known_of run past) n ≡ Some one → is_refused one.decision ≡ false) → is_refused one.decision ≡ false
+    by true is rest =
+        rest (numbered_behind (known_of run past).decided (known_of run (event ∷ past)).decided n one (decided-grown run event past) h
+        (grind (arith, nat_tests)))
+    by false is rest =
+        unrefused one.decision
+        (newly-none (λ (it : Decided). refusal_in it.decision) run event past n one (no-decision run event past calm)
+        (grind (arith, nat_tests)) h)
+
+-- ---- tests
+
+-- both of two
+pub and_made : (a b : Bool) → a ≡ true → b ≡ true → (a && b) ≡ true
+and_made true b first second = second
+and_made false b first second = absurd (let e : false ≡ true = first in cc)
+
+-- one of two
+pub or_first : (a b : Bool) → a ≡ true → (a || b) ≡ true
+or_first true b h = refl
+or_first false b h = absurd (let e : false ≡ true = h in cc)
+
+-- the other of two
+pub or_second : (a b : Bool) → b ≡ true → (a || b) ≡ true
+or_second a b h = ap (λ (it : Bool). a || it) h ∙ or_true a
+
+-- ---- rows that lack their provider
+
+-- a row that goes has its provider where its lack is not found
+has_provider : (known : Known) (one : Decided) (row : ℕ) (entry : Entry) → lacking_in known one row ≡ None
+    → row_at known row ≡ Some entry → has_deleted known one row ≡ true → lacks_provider entry ≡ false
+has_provider known one row entry none at goes = by (lacks_provider entry) refl
+  where
+    by : (b : Bool) → lacks_provider entry ≡ b → b ≡ false
+    by false is = refl
+    by true is =
+        let lacking : lacking_in known one row ≡ Some entry.urn =
+        ap (λ (b : Bool). if b && some_passes lacks_provider (row_at known row)
+        then option_map (λ (it : Entry). it.urn) (row_at known row) else None) goes
+        ∙ ap (λ (o : Option Entry). if some_passes lacks_provider o then option_map (λ (it : Entry). it.urn) o else None) at
+        ∙ ap (λ (b : Bool). if b then Some entry.urn else None) is in
+        let nothing : Option (List ℕ) = None in
+        absurd (let e : Some entry.urn ≡ nothing = sym lacking ∙ none in cc)
+
+-- so has each row that a goal has deleted which makes no problem
+provider_there : (known : Known) (one : Decided) (row : ℕ) (entry : Entry) → missing_provider known one ≡ None
+    → row_at known row ≡ Some entry → has_deleted known one row ≡ true → lacks_provider entry ≡ false
+provider_there known one row entry none at goes =
+    let inside : row < length (rows_of known.run) = slice_get_within (rows_of known.run) row entry at in
+    has_provider known one row entry
+    (range_each (λ (it : ℕ). lacking_in known one it ≡ None) 0 (length (rows_of known.run)) row (omega arith) (omega arith)
+    (first_none (lacking_in known one) (row_numbers known)
+    (option_map_none problem.MissingProvider (first_some (lacking_in known one) (row_numbers known)) none)))
+    at goes
+
+module _ (run : Fixed) (spelling : Spelling) (history : List Event) (n row : ℕ) (one : Decided)
+    (decided : decided_goal (known_of run history) n ≡ Some one) (deletes : is_delete_first one.decision ≡ true) where
+  abbrev known : Known
+  known = known_of run history
+
+  abbrev claims_row : Decided → Bool
+  claims_row it = is_row it.claim row
+
+  -- a row is claimed ever after
+  claimed_later : (past : List Event) → Later run past known → is_claimed (known_of run past).decided row ≡ true
+      → is_claimed known.decided row ≡ true
+  claimed_later past later h =
+      let found = passing_number claims_row (known_of run past).decided h in
+      numbered_passes claims_row known.decided found.0 found.1 (later.decisions found.0 found.1 found.2) found.3
+
+  -- a goal that claims a row of the chain was decided before the goal that takes the chain along
+  claimed_first : (c : ℕ) (other : Decided) → decided_goal known c ≡ Some other → is_row other.claim row ≡ true
+      → has_number (chain_of_goal run one) row ≡ true → c ≤ n
+  claimed_first c other at claims chained = by (nat_lt n c) refl
+    where
+      by : (b : Bool) → nat_lt n c ≡ b → c ≤ n
+      by false is = grind (arith, nat_tests)
+      by true is =
+          let made = was-made run history c other at in
+          let allowed = claims-allowed run history c other row made claims in
+          let count : length made.before ≡ c = made.count in
+          let below : n < c = grind (arith, nat_tests) in
+          let older : Grown made.before known.decided = grown_behind other made.before known.decided made.behind in
+          let there : numbered made.before n ≡ Some one =
+          numbered_behind made.before known.decided n one older decided (omega arith) in
+          let some : is_chained run made.before row ≡ true =
+          numbered_passes (λ (it : Decided). has_number (chain_of_goal run it) row) made.before n one there chained in
+          absurd (let e : true ≡ false = sym some ∙ allowed.unchained in cc)
+
+  -- a row of the chain that is replaced was claimed beside already where the goal was decided
+  beside_then : (past : List Event) → Later run past known → decided_goal (known_of run past) n ≡ Some one
+      → has_number (chain_of_goal run one) row ≡ true → is_replaced known row ≡ true → is_claimed_beside (known_of run past) row ≡ true
+  beside_then past later there chained replaced =
+      let parts = claimer_parts known row (stands_beside known) replaced in
+      let c : ℕ = parts.0 in
+      let found = where_found claims_row known.decided c parts.1 in
+      let other : Decided = found.0 in
+      let claims : is_row other.claim row ≡ true = found.2 in
+      let creates : is_create_first other.decision ≡ true =
+      sym (ap (λ (o : Option Decided). some_passes (λ (it : Decided). is_create_first it.decision) o) found.1) ∙ parts.3 in
+      let first : c ≤ n = claimed_first c other found.1 claims chained in
+      let below : n < length (known_of run past).decided = numbered_below (known_of run past).decided n one there in
+      let own = numbered_there (known_of run past).decided c (omega arith) in
+      let same : own.0 ≡ other = some_same own.0 other (sym (later.decisions c own.0 own.1) ∙ found.1) in
+      let at : decided_goal (known_of run past) c ≡ Some other = own.1 ∙ ap (λ (it : Decided). Some it) same in
+      let claimer : claimer_of (known_of run past).decided row ≡ Some c =
+      claimer_is run (known_of run past).decided c row other (known-apart run past) at claims in
+      ap (λ (o : Option ℕ). some_passes (λ (it : Decided). is_create_first it.decision)
+      (option_and_then (decided_goal (known_of run past)) o)) claimer
+      ∙ ap (λ (o : Option Decided). some_passes (λ (it : Decided). is_create_first it.decision) o) at
+      ∙ creates
+
+  module _ (past : List Event) (later : Later run past known) (there : decided_goal (known_of run past) n ≡ Some one) where
+    abbrev told_then : Known
+    told_then = known_of run past
+
+    abbrev is_marked_base : Known → Bool
+    is_marked_base told = some_passes (λ (it : Entry). it.doomed) (row_at told row)
+
+    abbrev chained_then : Bool
+    chained_then = has_number (chain_of_goal told_then.run one) row
+
+    abbrev goes_then : Bool
+    goes_then = not (is_claimed told_then.decided row) || is_marked told_then row
+
+    -- a row of the chain that nobody claims or that is marked
+    chain_taken : chained_then ≡ true → goes_then ≡ true → has_deleted told_then one row ≡ true
+    chain_taken chained goes =
+        or_first (takes_along told_then row one) (chained_then && is_claimed_beside told_then row)
+        (and_made (is_delete_first one.decision) (is_row one.claim row || (chained_then && goes_then)) deletes
+        (or_second (is_row one.claim row) (chained_then && goes_then) (and_made chained_then goes_then chained goes)))
+
+    -- a row of the chain that is marked later
+    marked_later : (b : Bool) → is_marked_base known ≡ b → has_number (chain_of_goal run one) row ≡ true → chained_then ≡ true
+        → (b || is_replaced known row) ≡ true → has_deleted told_then one row ≡ true
+    marked_later true is chained now h =
+        let base : is_marked_base told_then ≡ true =
+        ap (λ (fixed : Fixed). some_passes (λ (it : Entry). it.doomed) (slice_get (rows_of fixed) row))
+        (run_of run past ∙ sym (run_of run history)) ∙ is in
+        chain_taken now (or_second (not (is_claimed told_then.decided row)) (is_marked told_then row)
+        (or_first (is_marked_base told_then) (is_replaced told_then row) base))
+    marked_later false is chained now h =
+        or_second (takes_along told_then row one) (chained_then && is_claimed_beside told_then row)
+        (and_made chained_then (is_claimed_beside told_then row) now (beside_then past later there chained h))
+
+    -- a row that nobody claims later
+    unclaimed_then : (b : Bool) → is_claimed told_then.decided row ≡ b → is_claimed known.decided row ≡ false → not b ≡ true
+    unclaimed_then false at none = refl
+    unclaimed_then true at none = absurd (let e : true ≡ false = sym (claimed_later past later at) ∙ none in cc)
+
+    -- a row of the chain that nobody claims later or that is marked told_then
+    chain_later : (b : Bool) → is_claimed known.decided row ≡ b → has_number (chain_of_goal run one) row ≡ true → chained_then ≡ true
+        → (not b || is_marked known row) ≡ true → has_deleted told_then one row ≡ true
+    chain_later true is chained now h = marked_later (is_marked_base known) refl chained now h
+    chain_later false is chained now h =
+        chain_taken now (or_first (not (is_claimed told_then.decided row)) (is_marked told_then row)
+        (unclaimed_then (is_claimed told_then.decided row) refl is))
+
+    -- a row that the goal takes along is one that it had deleted where it was decided
+    deleted_then : takes_along known row one ≡ true → has_deleted told_then one row ≡ true
+    deleted_then takes = by (is_row one.claim row) refl (and_right (is_delete_first one.decision) _ takes)
+      where
+        by : (b : Bool) → is_row one.claim row ≡ b
+            → (b || (has_number (chain_of_goal known.run one) row && (not (is_claimed known.decided row) || is_marked known row))) ≡ true
+            → has_deleted told_then one row ≡ true
+        by true is h =
+            or_first (takes_along told_then row one) (chained_then && is_claimed_beside told_then row)
+            (and_made (is_delete_first one.decision) (is_row one.claim row || (chained_then && goes_then)) deletes
+            (or_first (is_row one.claim row) (chained_then && goes_then) is))
+        by false is h =
+            let chain : has_number (chain_of_goal known.run one) row ≡ true =
+            and_left (has_number (chain_of_goal known.run one) row) _ h in
+            let chained : has_number (chain_of_goal run one) row ≡ true =
+            subst (λ (fixed : Fixed). has_number (chain_of_goal fixed one) row ≡ true) (run_of run history) chain in
+            chain_later (is_claimed known.decided row) refl chained
+            (subst (λ (fixed : Fixed). has_number (chain_of_goal fixed one) row ≡ true) (sym (run_of run past)) chained)
+            (and_right (has_number (chain_of_goal known.run one) row) _ h)
+
+  -- so its lack of a provider was a problem there
+  provided_then : (entry : Entry) → row_at known row ≡ Some entry → takes_along known row one ≡ true
+      → (past : List Event) → Later run past known → IsLegal run spelling past → has_problem (known_of run past) ≡ false
+      → decided_goal (known_of run past) n ≡ Some one → lacks_provider entry ≡ false
+  provided_then entry at takes [] later legal calm h = absurd (none-decided run n one h)
+  provided_then entry at takes (event ∷ past) later legal calm h =
+      by (nat_lt n (length (known_of run past).decided)) refl
+      (provided_then entry at takes past (later-before run spelling event past known legal.1 later) legal.0
+      (calm-before run event past calm))
+    where
+      by : (b : Bool) → nat_lt n (length (known_of run past).decided) ≡ b
+          → (decided_goal (known_of run past) n ≡ Some one → lacks_provider entry ≡ false) → lacks_provider entry ≡ false
+      by true is rest =
+          rest (numbered_behind (known_of run past).decided (known_of run (event ∷ past)).decided n one (decided-grown run event past) h
+          (grind (arith, nat_tests)))
+      by false is rest =
+          provider_there (known_of run (event ∷ past)) one row entry
+          (newly-none (missing_provider (known_of run (event ∷ past))) run event past n one (no-provider run event past calm)
+          (grind (arith, nat_tests)) h)
+          (ap (λ (fixed : Fixed). slice_get (rows_of fixed) row) (run_of run (event ∷ past) ∙ sym (run_of run history)) ∙ at)
+          (deleted_then (event ∷ past) later h takes)
+
+-- where no problem stands, each row that a goal takes along has the provider that it must be sent to
+pub lacking-trouble : (run : Fixed) (spelling : Spelling) (history : List Event) (n row : ℕ) (one : Decided) (entry : Entry)
+    → IsLegal run spelling history → has_problem (known_of run history) ≡ false
+    → decided_goal (known_of run history) n ≡ Some one → is_delete_first one.decision ≡ true
+    → takes_along (known_of run history) row one ≡ true → row_at (known_of run history) row ≡ Some entry
+    → lacks_provider entry ≡ false
+lacking-trouble run spelling history n row one entry legal calm decided deletes takes at =
+    provided_then run spelling history n row one decided deletes entry at takes history (later-now run history) legal calm decided
