@@ -7,3 +7,4 @@ pub mod CreateFirst
 pub mod Renamed
 pub mod Destroyed
 pub mod ReadAnew
+pub mod TurnedTwice

@@ -2,6 +2,7 @@
 #![tactic(auto)]
 
 pub mod alias_renames_references;
+pub mod alias_turns_twice;
 pub mod destroy_retains_and_drops;
 pub mod first_create;
 pub mod one_component;
