@@ -15,11 +15,13 @@ use Rattle.pl_events.specs.declared.operation.Source.{Source}
 use Rattle.pl_events.specs.declared.operation.Source.TheVariants as source
 use Rattle.pl_events.specs.declared.operation.Subject.TheVariants as subject
 use Rattle.pl_events.specs.declared.reply.Reply.{Reply}
+use Rattle.pl_decide.specs.declared.decision.Decision.{Decision}
+use Rattle.pl_decide.specs.declared.decision.Decision.TheVariants as decision
 use Rattle.pl_model.specs.Run.{Fixed, Pairs, is_destroy, is_preview, is_refresh, rows_of}
 use Rattle.pl_model.specs.Asked.{call_of}
 use Rattle.pl_model.specs.Claims.{Decided, chain_of_claim, chain_of_goal, is_claimed, is_delete_first, is_row, numbered}
 use Rattle.pl_model.specs.Decisions.{Turn, change_at, claim_at, decided_by, decided_of, checked_at, checked_in, decided_at, diff_at, diffed_in, is_provider_unknown, is_refused, needs_check, number_at, turn_in, wants_diff}
-use Rattle.pl_model.specs.Due.{asks_check, asks_config, asks_diff, at_turn, for_decided, is_asked, is_drop_ready, is_keep_ready, is_placed, is_removable, is_wanted_op, keeps_goal, op_of_goal, operations_of, provider_recorded, provider_stands, references_recorded, sends_goal, source_of_op, urn_is_free, way_is_free, none_or}
+use Rattle.pl_model.specs.Due.{asks_check, asks_config, asks_diff, at_turn, for_decided, is_asked, is_carried_out, is_drop_ready, is_keep_ready, is_placed, is_reading, is_removable, is_wanted_op, keeps_goal, op_of_goal, operations_of, provider_recorded, provider_stands, references_recorded, sends_goal, source_of_op, urn_is_free, way_is_free, none_or}
 use Rattle.pl_model.specs.History.{known_of}
 use Rattle.pl_model.specs.Known.{Known, all_recorded, decided_goal, goal_at, host_ended, is_over, is_recorded, next_turn}
 use Rattle.pl_model.specs.Problems.{lacks_provider}
@@ -38,35 +40,25 @@ use Rattle.pl_model_laws.proofs.Waiting.{above, all_in_range, all_numbers, any_n
 
 -- ---- the goals, one after another
 
-module _ (run : Fixed) (history : List Event) (real : is_preview run.mode ≡ false) (other : is_refresh run.mode ≡ false)
-    (lawful_decided : (m : ℕ) → is_recorded (known_of run history) m ≡ true → is_some (decided_goal (known_of run history) m) ≡ true)
-    (replied : (about : Op) → is_configure about ≡ false → was_begun history about ≡ true
-    → (reply : Reply) × (reply_to (known_of run history).answers about ≡ Some reply) × (tells_success (call_of about) reply ≡ true))
-    (goal_done : (about : Op) (number : ℕ) → goal_of_op about ≡ Some number → was_begun history about ≡ true → is_recorded (known_of run history) number ≡ true)
-    (row_done : (row : ℕ) → was_begun history (op.Delete (subject.Row row)) ≡ true → has_number (removed_of history) row ≡ true)
-    (served : (about : Op) (wanted : Source) → source_of_op (known_of run history) about ≡ Some wanted → is_wanted_op (known_of run history) about ≡ true
-    → list_any (same_op about) (operations_of (known_of run history)) ≡ true → ⊥)
-    (config_served : (n : ℕ) → is_wanted_op (known_of run history) (op.CheckConfig (subject.Goal n)) ≡ true → n < length (known_of run history).goals → ⊥)
-    (configured : (n : ℕ) → was_begun history (op.CheckConfig (subject.Goal n)) ≡ true → n < length (known_of run history).goals
-    → was_configured history (source.Goal n) ≡ true)
-    (no_keep : (n : ℕ) → is_keep_ready (known_of run history) n ≡ true → n < length (known_of run history).goals → ⊥)
-    (no_drop : (row : ℕ) → is_drop_ready (known_of run history) row ≡ true → row < length (rows_of run) → ⊥)
-    (unrefused : (n : ℕ) (one : Decided) → decided_goal (known_of run history) n ≡ Some one → is_refused one.decision ≡ false)
-    (taken_provided : (n : ℕ) (one : Decided) (row : ℕ) (entry : Entry) → decided_goal (known_of run history) n ≡ Some one
-    → is_delete_first one.decision ≡ true → takes_along (known_of run history) row one ≡ true → row_at (known_of run history) row ≡ Some entry
-    → lacks_provider entry ≡ false)
-    (ready_references : (n : ℕ) (goal : Goal) → ((m : ℕ) → m < n → is_recorded (known_of run history) m ≡ true)
-    → goal_at (known_of run history) n ≡ Some goal → references_recorded (known_of run history) goal ≡ true)
-    (named : (n : ℕ) (goal : Goal) → goal_at (known_of run history) n ≡ Some goal → is_provided goal ≡ true
-    → (m : ℕ) × (goal.provider ≡ Some m) × (m < n))
-    (urn_ready : (n : ℕ) (goal : Goal) (one : Decided) → goal_at (known_of run history) n ≡ Some goal → decided_goal (known_of run history) n ≡ Some one
-    → ((m : ℕ) → m < n → is_recorded (known_of run history) m ≡ true)
-    → ((m : ℕ) (before : Decided) (row : ℕ) → m < n → decided_goal (known_of run history) m ≡ Some before
-    → has_number (chain_of_goal run before) row ≡ true → is_left (known_of run history) row ≡ false)
-    → urn_is_free (known_of run history) goal one ≡ true)
-    (provider_row : (row : ℕ) (entry : Entry) → slice_get (rows_of run) row ≡ Some entry → is_none entry.provider ≡ false
-    → (place : ℕ) × (provider_row_of (rows_of run) row ≡ Some place))
-    (hosted : (n : ℕ) (goal : Goal) → goal_at (known_of run history) n ≡ Some goal → is_destroy run.mode ≡ false) where
+-- what holds where no problem stands and nothing is out, due or over the limit, whatever the mode
+pub record IsStill (run : Fixed) (history : List Event) : Type 0 where
+  pub decided : (n : ℕ) → is_recorded (known_of run history) n ≡ true → is_some (decided_goal (known_of run history) n) ≡ true
+  pub replied : (about : Op) → is_configure about ≡ false → was_begun history about ≡ true
+      → (reply : Reply) × (reply_to (known_of run history).answers about ≡ Some reply) × (tells_success (call_of about) reply ≡ true)
+  pub goal_done : (about : Op) (number : ℕ) → goal_of_op about ≡ Some number → was_begun history about ≡ true
+      → is_recorded (known_of run history) number ≡ true
+  pub served : (about : Op) (wanted : Source) → source_of_op (known_of run history) about ≡ Some wanted
+      → is_wanted_op (known_of run history) about ≡ true → list_any (same_op about) (operations_of (known_of run history)) ≡ true → ⊥
+  pub config_served : (n : ℕ) → is_wanted_op (known_of run history) (op.CheckConfig (subject.Goal n)) ≡ true
+      → n < length (known_of run history).goals → ⊥
+  pub no_keep : (n : ℕ) → is_keep_ready (known_of run history) n ≡ true → n < length (known_of run history).goals → ⊥
+  pub unrefused : (n : ℕ) (one : Decided) → decided_goal (known_of run history) n ≡ Some one → is_refused one.decision ≡ false
+  pub ready_references : (n : ℕ) (goal : Goal) → ((m : ℕ) → m < n → is_recorded (known_of run history) m ≡ true)
+      → goal_at (known_of run history) n ≡ Some goal → references_recorded (known_of run history) goal ≡ true
+  pub named : (n : ℕ) (goal : Goal) → goal_at (known_of run history) n ≡ Some goal → is_provided goal ≡ true
+      → (m : ℕ) × (goal.provider ≡ Some m) × (m < n)
+
+module _ (run : Fixed) (history : List Event) (still : IsStill run history) where
   abbrev known : Known
   known = known_of run history
 
@@ -80,29 +72,23 @@ module _ (run : Fixed) (history : List Event) (real : is_preview run.mode ≡ fa
   -- an operation of a lane that is asked was begun
   begun_so : (about : Op) (wanted : Source) → source_of_op known about ≡ Some wanted → list_any (same_op about) (operations_of known) ≡ true
       → is_asked known about ≡ true → was_begun history about ≡ true
-  begun_so about wanted from listed asked = true_or (was_begun history about) (λ unbegun. served about wanted from (wanted_so about unbegun asked) listed)
-
-  -- everything of the goals below a number is done
-  record Below (n : ℕ) : Type 0 where
-    pub recorded : (m : ℕ) → m < n → is_recorded known m ≡ true
-    pub gone : (m : ℕ) (one : Decided) (row : ℕ) → m < n → decided_goal known m ≡ Some one
-        → has_number (chain_of_goal run one) row ≡ true → is_left known row ≡ false
+  begun_so about wanted from listed asked = true_or (was_begun history about) (λ unbegun. still.served about wanted from (wanted_so about unbegun asked) listed)
 
   goal_below : (n : ℕ) (goal : Goal) → goal_at known n ≡ Some goal → n < length known.goals
   goal_below n goal h = numbered_below known.goals n goal h
 
   -- ---- it is decided
 
-  module _ (n : ℕ) (goal : Goal) (stands : goal_at known n ≡ Some goal) (below : Below n) where
+  module _ (n : ℕ) (goal : Goal) (stands : goal_at known n ≡ Some goal) (below : (m : ℕ) → m < n → is_recorded known m ≡ true) where
     -- the source of the operations of a goal that is provided for
     goal_source : is_provided goal ≡ true → (m : ℕ) × (source_of_goal known n ≡ Some (source.Goal m)) × (goal.provider ≡ Some m) × (is_recorded known m ≡ true)
     goal_source provided =
-        let own = named n goal stands provided in (
+        let own = still.named n goal stands provided in (
           own.0,
           ap (λ (o : Option Goal). option_map source.Goal (option_and_then (λ (it : Goal). it.provider) o)) stands
               ∙ ap (λ (o : Option ℕ). option_map source.Goal o) own.1,
           own.1,
-          below.recorded own.0 own.2,
+          below own.0 own.2,
         )
 
     module _ (turn : Turn) (next : next_turn known ≡ Some turn) (whose : turn.goal ≡ goal) (number : number_at turn ≡ n)
@@ -117,9 +103,6 @@ module _ (run : Fixed) (history : List Event) (real : is_preview run.mode ≡ fa
           let own = goal_source provided in
           ap (λ (it : Goal). some_passes (is_recorded known) it.provider) whose ∙ ap (λ (o : Option ℕ). some_passes (is_recorded known) o) own.2 ∙ own.3
 
-      known_provider : is_provider_unknown turn ≡ false
-      known_provider = let live : is_preview turn.run.mode ≡ false = ap (λ (f : Fixed). is_preview f.mode) fixed ∙ real in rw live refl
-
       -- its check was answered
       checked_so : is_some (checked_at turn) ≡ true
       checked_so = choose_some (is_provider_goal turn.goal) (needs_check turn) _ _ _ config check
@@ -133,9 +116,9 @@ module _ (run : Fixed) (history : List Event) (real : is_preview run.mode ≡ fa
           config : is_provider_goal turn.goal ≡ true → is_some (checked_in (reply_to turn.answers (op.CheckConfig (subject.Goal (number_at turn))))) ≡ true
           config is =
               let begun : was_begun history (op.CheckConfig (subject.Goal n)) ≡ true =
-              true_or (was_begun history (op.CheckConfig (subject.Goal n))) (λ unbegun. config_served n
+              true_or (was_begun history (op.CheckConfig (subject.Goal n))) (λ unbegun. still.config_served n
               (wanted_so (op.CheckConfig (subject.Goal n)) unbegun (at_its_turn asks_config is)) (goal_below n goal stands)) in
-              let came = replied (op.CheckConfig (subject.Goal n)) refl begun in
+              let came = still.replied (op.CheckConfig (subject.Goal n)) refl begun in
               ap (λ (k : ℕ). is_some (checked_in (reply_to turn.answers (op.CheckConfig (subject.Goal k))))) number
               ∙ ap (λ (o : Option Reply). is_some (checked_in o)) (reply_is (op.CheckConfig (subject.Goal n)) came.0 came.1)
               ∙ checked_well came.0 came.2
@@ -148,7 +131,7 @@ module _ (run : Fixed) (history : List Event) (real : is_preview run.mode ≡ fa
               let asked : is_asked known (op.Check (subject.Goal n)) ≡ true =
               at_its_turn (asks_check known) (rw need (rw is (recorded_provider (provided_too provided)))) in
               let begun = begun_so (op.Check (subject.Goal n)) (source.Goal own.0) own.1 (check_listed known n (goal_below n goal stands)) asked in
-              let came = replied (op.Check (subject.Goal n)) refl begun in
+              let came = still.replied (op.Check (subject.Goal n)) refl begun in
               ap (λ (k : ℕ). is_some (checked_in (reply_to turn.answers (op.Check (subject.Goal k))))) number
               ∙ ap (λ (o : Option Reply). is_some (checked_in o)) (reply_is (op.Check (subject.Goal n)) came.0 came.1)
               ∙ inputs_well came.0 came.2
@@ -157,22 +140,27 @@ module _ (run : Fixed) (history : List Event) (real : is_preview run.mode ≡ fa
       diffed_so : is_some (checked_at turn) ≡ true → is_some (diff_at turn) ≡ true
       diffed_so checked = by (wants_diff turn) refl
         where
-          asked_diff : wants_diff turn ≡ true → is_some (option_map Some (diffed_in (reply_to turn.answers (op.Diff (subject.Goal (number_at turn)))))) ≡ true
-          asked_diff wants =
+          asked_diff : is_provider_unknown turn ≡ false → wants_diff turn ≡ true
+              → is_some (option_map Some (diffed_in (reply_to turn.answers (op.Diff (subject.Goal (number_at turn)))))) ≡ true
+          asked_diff is wants =
               let provided : is_provided goal ≡ true = subst (λ (it : Goal). is_provided it ≡ true) whose (diff_provided (claim_at turn) turn.goal (change_at turn) wants) in
               let own = goal_source provided in
               let asked : is_asked known (op.Diff (subject.Goal n)) ≡ true =
-              at_its_turn (asks_diff known) (rw checked (rw wants (rw known_provider (recorded_provider provided)))) in
+              at_its_turn (asks_diff known) (rw checked (rw wants (rw is (recorded_provider provided)))) in
               let begun = begun_so (op.Diff (subject.Goal n)) (source.Goal own.0) own.1 (diff_listed known n (goal_below n goal stands)) asked in
-              let came = replied (op.Diff (subject.Goal n)) refl begun in
+              let came = still.replied (op.Diff (subject.Goal n)) refl begun in
               ap (λ (k : ℕ). is_some (option_map (λ (diff : Diffed). Some diff) (diffed_in (reply_to turn.answers (op.Diff (subject.Goal k)))))) number
               ∙ ap (λ (closed : List Closed). is_some (option_map (λ (diff : Diffed). Some diff) (diffed_in (reply_to closed (op.Diff (subject.Goal n)))))) answers
               ∙ ap (λ (o : Option Reply). is_some (option_map (λ (diff : Diffed). Some diff) (diffed_in o))) came.1
               ∙ mapped_some (diffed_in (Some came.0)) (diffed_well came.0 came.2)
 
+          unknown : wants_diff turn ≡ true → (b : Bool) → is_provider_unknown turn ≡ b → is_some (diff_at turn) ≡ true
+          unknown wants true is = rw wants (rw is refl)
+          unknown wants false is = rw wants (rw is (asked_diff is wants))
+
           by : (b : Bool) → wants_diff turn ≡ b → is_some (diff_at turn) ≡ true
           by false wants = rw wants refl
-          by true wants = rw wants (rw known_provider (asked_diff wants))
+          by true wants = unknown wants (is_provider_unknown turn) refl
 
       -- so it is decided
       decided_so : decided_at turn ≡ None → ⊥
@@ -186,12 +174,13 @@ module _ (run : Fixed) (history : List Event) (real : is_preview run.mode ≡ fa
               sym (ap (λ (o : Option (Option Diffed)). option_map (decided_by turn checked) o) has)
               ∙ sym (ap (λ (o : Option Pairs). option_and_then (λ (it : Pairs). option_map (decided_by turn it) (diff_at turn)) o) is) ∙ missing in cc
 
-  decided_there : (n : ℕ) (goal : Goal) → goal_at known n ≡ Some goal → Below n → (one : Decided) × (decided_goal known n ≡ Some one)
+  decided_there : (n : ℕ) (goal : Goal) → goal_at known n ≡ Some goal → ((m : ℕ) → m < n → is_recorded known m ≡ true)
+      → (one : Decided) × (decided_goal known n ≡ Some one)
   decided_there n goal stands below = by (decided_goal known n) refl
     where
       least : (k : ℕ) → (m : ℕ) → m < k → k ≤ n → m < length known.decided
       least k m low within =
-          let there = some_named (decided_goal known m) (lawful_decided m (below.recorded m (omega arith))) in
+          let there = some_named (decided_goal known m) (still.decided m (below m (omega arith))) in
           numbered_below known.decided m there.0 there.1
 
       enough : n ≤ length known.decided
@@ -213,150 +202,15 @@ module _ (run : Fixed) (history : List Event) (real : is_preview run.mode ≡ fa
       by (Some one) is = (one, is)
       by None is = absurd (here (exact known.decided n enough is))
 
-  -- ---- the rows that it takes along are gone
-
-  base_row : (row : ℕ) (entry : Entry) → slice_get (rows_of run) row ≡ Some entry → row_at known row ≡ Some entry
-  base_row row entry is = ap (λ (fixed : Fixed). slice_get (rows_of fixed) row) (run_of run history) ∙ is
-
-  -- a row that is left and is to go, on which no row depends, does not stay
-  row_goes : (row : ℕ) (entry : Entry) → slice_get (rows_of run) row ≡ Some entry → is_left known row ≡ true → is_doomed known row ≡ true
-      → has_dependents known row ≡ false → lacks_provider entry ≡ false → ⊥
-  row_goes row entry here left doomed free provided = by (is_sent entry) refl
-    where
-      at : row_at known row ≡ Some entry
-      at = base_row row entry here
-
-      low : row < length (rows_of run)
-      low = slice_get_within (rows_of run) row entry here
-
-      low_too : row < length (rows_of known.run)
-      low_too = subst (λ (fixed : Fixed). row < length (rows_of fixed)) (sym (run_of run history)) low
-
-      removable : is_removable known row ≡ true
-      removable =
-          let live : is_preview known.run.mode ≡ false = ap (λ (fixed : Fixed). is_preview fixed.mode) (run_of run history) ∙ real in
-          rw doomed (rw free (rw live refl))
-
-      begun : is_sent entry ≡ true → was_begun history (op.Delete (subject.Row row)) ≡ true
-      begun sent =
-          let some : is_none entry.provider ≡ false = subst (λ (b : Bool). (b && is_none entry.provider) ≡ false) sent provided in
-          let own = provider_row row entry here some in
-          let from : source_of_row known row ≡ Some (source_of_provider known own.0) =
-          ap (λ (fixed : Fixed). option_map (source_of_provider known) (provider_row_of (rows_of fixed) row)) (run_of run history)
-          ∙ ap (λ (o : Option ℕ). option_map (source_of_provider known) o) own.1 in
-          begun_so (op.Delete (subject.Row row)) (source_of_provider known own.0) from (delete_listed known row low_too)
-          (rw removable (rw at sent))
-
-      by : (b : Bool) → is_sent entry ≡ b → ⊥
-      by false kept = no_drop row (rw removable (rw at (rw kept refl))) low
-      by true sent =
-          let removed : has_number (removed_of known.history) row ≡ true =
-          subst (λ (events : List Event). has_number (removed_of events) row ≡ true) (sym (history_of run history)) (row_done row (begun sent)) in
-          let parts = left_parts _ (has_number (removed_of known.history) row) _ left in
-          let e : true ≡ false = sym removed ∙ parts.1 in cc
-
-  -- whether a row is the claim of what is decided, or in its chain
-  abbrev IsTaken : Decided → ℕ → Type 0
-  IsTaken one row = (is_row one.claim row ≡ true) ⊎ (has_number (chain_of_goal run one) row ≡ true)
-
-  module _ (n : ℕ) (goal : Goal) (one : Decided) (stands : goal_at known n ≡ Some goal) (decided : decided_goal known n ≡ Some one)
-      (first : is_delete_first one.decision ≡ true) (below : Below n) where
-    -- what is taken by an earlier goal too is marked
-    marked_so : (row : ℕ) → has_number (chain_of_goal run one) row ≡ true → is_left known row ≡ true → is_claimed known.decided row ≡ true
-        → is_marked known row ≡ true
-    marked_so row chained left claimed =
-        let (m, before, its, claims) = claimed_by known.decided row claimed in
-        claim-gone run history m before row its claims (below.recorded m (chained-kept run history n m row one before decided chained its claims)) left
-
-    takes_so : (row : ℕ) → IsTaken one row → is_left known row ≡ true → takes_along known row one ≡ true
-    takes_so row (inl claims) left = both (is_delete_first one.decision) _ first (rw claims refl)
-    takes_so row (inr chained) left =
-        let there : has_number (chain_of_goal known.run one) row ≡ true =
-        ap (λ (fixed : Fixed). has_number (chain_of_goal fixed one) row) (run_of run history) ∙ chained in
-        both (is_delete_first one.decision) _ first (either (is_row one.claim row) _
-        (both (has_number (chain_of_goal known.run one) row) _ there (by (is_claimed known.decided row) refl)))
-      where
-        by : (b : Bool) → is_claimed known.decided row ≡ b → (not (is_claimed known.decided row) || is_marked known row) ≡ true
-        by false is = rw is refl
-        by true is = either (not (is_claimed known.decided row)) (is_marked known row) (marked_so row chained left is)
-
-    doomed_so : (row : ℕ) → IsTaken one row → is_left known row ≡ true → is_doomed known row ≡ true
-    doomed_so row taken left =
-        let reads : is_refresh known.run.mode ≡ false = ap (λ (fixed : Fixed). is_refresh fixed.mode) (run_of run history) ∙ other in
-        let up : is_destroy known.run.mode ≡ false = ap (λ (fixed : Fixed). is_destroy fixed.mode) (run_of run history) ∙ hosted n goal stands in
-        let any : list_any (takes_along known row) known.decided ≡ true = any_numbered (takes_along known row) known.decided n one decided (takes_so row taken left) in
-        rw left (rw reads (rw up (rw any (or_true (is_over known)))))
-
-    -- a row of them on which no later one of them is left does not stay
-    one_gone : (row : ℕ) → IsTaken one row → ((later : ℕ) → row < later → IsTaken one later → is_left known later ≡ false) → is_left known row ≡ false
-    one_gone row taken later_gone = false_or (is_left known row) (λ left.
-        let there = some_at (rows_of run) row (left_low run history row left) in
-        row_goes row there.0 there.1 left (doomed_so row taken left) free
-        (taken_provided n one row there.0 decided first (takes_so row taken left) (base_row row there.0 there.1)))
-      where
-        chain_is : (own : ℕ) → one.claim ≡ Some own → chain_of_goal run one ≡ chain_of (rows_of run) own
-        chain_is own claim =
-            ap (λ (b : Bool). if b then chain_of_claim run one.claim else []) first ∙ ap (λ (o : Option ℕ). chain_of_claim run o) claim
-
-        chain_more : (later : ℕ) → refers_to (rows_of run) later row ≡ true → later < length (rows_of run) → IsTaken one row
-            → has_number (chain_of_goal run one) later ≡ true
-        chain_more later refers low (inl claims) =
-            ap (λ (places : List ℕ). has_number places later) (chain_is row (row_is one.claim row claims))
-            ∙ chain-closed (rows_of run) row later row refers low (inl refl)
-        chain_more later refers low (inr chained) =
-            let (was_first, own, claim, within) = chain-of-claim run one row chained in
-            ap (λ (places : List ℕ). has_number places later) (chain_is own claim)
-            ∙ chain-closed (rows_of run) own later row refers low (inr within)
-
-        further : (later : ℕ) → (refers_to (rows_of run) later row && is_left known later) ≡ true → ⊥
-        further later h =
-            let refers = and_left (refers_to (rows_of run) later row) (is_left known later) h in
-            let stays = and_right (refers_to (rows_of run) later row) (is_left known later) h in
-            let above : row < later = refers_above (rows_of run) later row refers in
-            let gone : is_left known later ≡ false = later_gone later above (inr (chain_more later refers (left_low run history later stays) taken)) in
-            let e : true ≡ false = sym stays ∙ gone in cc
-
-        free : has_dependents known row ≡ false
-        free = none_in_range (λ later. refers_to (rows_of known.run) later row && is_left known later) 0 (length (rows_of known.run))
-            (λ later low high h. further later (subst (λ (fixed : Fixed). (refers_to (rows_of fixed) later row && is_left known later) ≡ true) (run_of run history) h))
-
-    -- from the last row on none of them is left
-    gone_from : (count row : ℕ) → length (rows_of run) ≤ row + count → IsTaken one row → is_left known row ≡ false
-    gone_from zero row end taken = false_or (is_left known row) (λ left. let low = left_low run history row left in omega arith)
-    gone_from (suc count) row end taken =
-        one_gone row taken (λ later above more. gone_from count later (omega arith) more)
-
-    all_gone : (row : ℕ) → IsTaken one row → is_left known row ≡ false
-    all_gone row taken = gone_from (length (rows_of run)) row (omega arith) taken
-
   -- ---- it is recorded
 
-  module _ (n : ℕ) (goal : Goal) (one : Decided) (stands : goal_at known n ≡ Some goal) (decided : decided_goal known n ≡ Some one) (below : Below n) where
-    claim_gone_so : is_delete_first one.decision ≡ true → none_or (λ row. not (is_left known row)) one.claim ≡ true
-    claim_gone_so first = by one.claim refl
-      where
-        by : (o : Option ℕ) → one.claim ≡ o → none_or (λ row. not (is_left known row)) o ≡ true
-        by None is = refl
-        by (Some row) is =
-            let claims : is_row one.claim row ≡ true = ap (λ (o : Option ℕ). is_row o row) is ∙ same_number row in
-            ap (λ (b : Bool). not b) (all_gone n goal one stands decided first below row (inl claims))
-
-    way_so : way_is_free known one ≡ true
-    way_so = by (is_delete_first one.decision) refl
-      where
-        by : (b : Bool) → is_delete_first one.decision ≡ b → way_is_free known one ≡ true
-        by false is = rw is refl
-        by true is =
-            let chain : list_all (λ row. not (is_left known row)) (chain_of_goal known.run one) ≡ true =
-            subst (λ (fixed : Fixed). list_all (λ row. not (is_left known row)) (chain_of_goal fixed one) ≡ true) (sym (run_of run history))
-            (all_numbers (λ row. not (is_left known row)) (chain_of_goal run one)
-            (λ row chained. ap (λ (b : Bool). not b) (all_gone n goal one stands decided is below row (inr chained)))) in
-            either (not (is_delete_first one.decision)) _ (both (none_or (λ row. not (is_left known row)) one.claim) _ (claim_gone_so is) chain)
-
+  module _ (n : ℕ) (goal : Goal) (one : Decided) (stands : goal_at known n ≡ Some goal) (decided : decided_goal known n ≡ Some one)
+      (below : (m : ℕ) → m < n → is_recorded known m ≡ true)
+      (free : (is_preview known.run.mode || urn_is_free known goal one) ≡ true) (provider : provider_stands known n goal ≡ true)
+      (way : (about : Op) → op_of_goal known n goal one ≡ Some about → way_is_free known one ≡ true) where
+    -- it can be recorded
     placed_so : is_recorded known n ≡ false → is_placed known n goal one ≡ true
-    placed_so missing =
-        let free = urn_ready n goal one stands decided below.recorded below.gone in
-        rw (unrefused n one decided) (rw missing (rw (ready_references n goal below.recorded stands) (rw free (or_true (is_preview known.run.mode)))))
+    placed_so missing = rw (still.unrefused n one decided) (rw missing (rw (still.ready_references n goal below stands) free))
 
     found_so : (test : Goal → Decided → Bool) → test goal one ≡ true → for_decided known n test ≡ true
     found_so test h = rw stays (rw decided h)
@@ -364,26 +218,17 @@ module _ (run : Fixed) (history : List Event) (real : is_preview run.mode ≡ fa
         stays : goal_at known n ≡ Some goal
         stays = stands
 
+    -- if it needs no operation, it is kept
     kept_so : is_recorded known n ≡ false → op_of_goal known n goal one ≡ None → ⊥
     kept_so missing none =
-        no_keep n (found_so (keeps_goal known n) (rw (placed_so missing) (rw none provider_so))) (goal_below n goal stands)
-      where
-        provider_so : provider_stands known n goal ≡ true
-        provider_so = by (is_provider_goal goal) refl
-          where
-            by : (b : Bool) → is_provider_goal goal ≡ b → provider_stands known n goal ≡ true
-            by false is = rw is refl
-            by true is =
-                let had : was_configured known.history (source.Goal n) ≡ true =
-                subst (λ (events : List Event). was_configured events (source.Goal n) ≡ true) (sym (history_of run history))
-                (configured n (config_begun run history n goal one stands decided is) (goal_below n goal stands)) in
-                rw is (rw had (or_true (is_preview known.run.mode)))
+        still.no_keep n (found_so (keeps_goal known n) (rw (placed_so missing) (rw none provider))) (goal_below n goal stands)
 
     -- what its operation asks
     sends_so : (about : Op) → is_recorded known n ≡ false → op_of_goal known n goal one ≡ Some about → for_decided known n (sends_goal known n about) ≡ true
     sends_so about missing needs =
-        found_so (sends_goal known n about) (rw (placed_so missing) (rw needs (rw (same_op_self about) way_so)))
+        found_so (sends_goal known n about) (rw (placed_so missing) (rw needs (rw (same_op_self about) (way about needs))))
 
+    -- which was begun
     sent_so : (about : Op) → is_recorded known n ≡ false → op_of_goal known n goal one ≡ Some about → was_begun history about ≡ true
     sent_so about missing needs =
         let (provided, kind) = carried known n goal one about needs in
@@ -391,73 +236,309 @@ module _ (run : Fixed) (history : List Event) (real : is_preview run.mode ≡ fa
         begun_so about (source.Goal own.0) (kind_source known n about kind ∙ own.1) (sends_listed known about n (goal_below n goal stands) (kind_listed n about kind))
         (kind_asked known n about kind (sends_so about missing needs))
 
+    -- so it is recorded, where it is kept or by its operation
     recorded_so : is_recorded known n ≡ true
     recorded_so = true_or (is_recorded known n) (λ missing. by missing (op_of_goal known n goal one) refl)
       where
         by : is_recorded known n ≡ false → (o : Option Op) → op_of_goal known n goal one ≡ o → ⊥
         by missing None is = kept_so missing is
         by missing (Some about) is =
-            let done = goal_done about n (kind_goal n about (carried known n goal one about is).1) (sent_so about missing is) in
+            let done = still.goal_done about n (kind_goal n about (carried known n goal one about is).1) (sent_so about missing is) in
             let e : true ≡ false = sym done ∙ missing in cc
 
-  -- ---- all of them
+  -- ---- in a preview
 
-  below_next : (n : ℕ) (goal : Goal) → goal_at known n ≡ Some goal → Below n → Below (suc n)
-  below_next n goal stands below =
-      let one = decided_there n goal stands below in
-      record {
-        recorded = λ m low. at_last (λ k. is_recorded known k ≡ true) n m low below.recorded (recorded_so n goal one.0 stands one.1 below);
-        gone = λ m before row low its chained. gone_last m before row (last_or n m low) its chained;
-      }
-    where
-      gone_last : (m : ℕ) (before : Decided) (row : ℕ) → (m < n) ⊎ (m ≡ n) → decided_goal known m ≡ Some before
-          → has_number (chain_of_goal run before) row ≡ true → is_left known row ≡ false
-      gone_last m before row (inl earlier) its chained = below.gone m before row earlier its chained
-      gone_last m before row (inr same) its chained =
-          let here : decided_goal known n ≡ Some before = subst (λ (k : ℕ). decided_goal known k ≡ Some before) same its in
-          all_gone n goal before stands here (chain-of-claim run before row chained).0 below row (inr chained)
+  module _ (previews : is_preview run.mode ≡ true) where
+    -- the mode is that of the run, whatever happened
+    preview : is_preview known.run.mode ≡ true
+    preview = ap (λ (fixed : Fixed). is_preview fixed.mode) (run_of run history) ∙ previews
 
-  below_all : (n : ℕ) → n ≤ length known.goals → Below n
-  below_all zero low = record { recorded = λ m below. absurd (omega arith); gone = λ m one row below decided chained. absurd (omega arith) }
-  below_all (suc n) low =
-      let goal = numbered_at known.goals n (omega arith) in below_next n goal.0 goal.1 (below_all n (omega arith))
-
-  pub everything_recorded : all_recorded known ≡ true
-  everything_recorded =
-      let below = below_all (length known.goals) (omega arith) in
-      all_in_range (is_recorded known) 0 (length known.goals) (λ n low high. below.recorded n (omega arith))
-
-  -- ---- and then the rows
-
-  module _ (ended : host_ended known ≡ true)
-      (end_provided : is_over known ≡ true → (row : ℕ) (entry : Entry) → is_doomed known row ≡ true → row_at known row ≡ Some entry → lacks_provider entry ≡ false)
-      (end_target : is_over known ≡ true → (later earlier : ℕ) → is_left known later ≡ true → refers_to (rows_of run) later earlier ≡ true
-      → is_doomed known earlier ≡ true → is_target known later ≡ true) where
-    over : is_over known ≡ true
-    over = rw ended everything_recorded
-
-    one_done : (row : ℕ) → ((later : ℕ) → row < later → is_doomed known later ≡ false) → is_doomed known row ≡ false
-    one_done row later_done = false_or (is_doomed known row) (λ doomed.
-        let left = doomed_left known row doomed in
-        let there = some_at (rows_of run) row (left_low run history row left) in
-        row_goes row there.0 there.1 left doomed (free doomed) (end_provided over row there.0 doomed (base_row row there.0 there.1)))
+    -- what is only read has nothing in its way
+    read_way : (one : Decided) → is_reading one.decision ≡ true → way_is_free known one ≡ true
+    read_way one reads = by one.decision refl reads
       where
-        further : is_doomed known row ≡ true → (later : ℕ) → (refers_to (rows_of run) later row && is_left known later) ≡ true → ⊥
-        further doomed later h =
-            let refers = and_left (refers_to (rows_of run) later row) (is_left known later) h in
-            let stays = and_right (refers_to (rows_of run) later row) (is_left known later) h in
-            let target = end_target over later row stays refers doomed in
-            let reads : is_refresh known.run.mode ≡ false = ap (λ (fixed : Fixed). is_refresh fixed.mode) (run_of run history) ∙ other in
-            let too : is_doomed known later ≡ true = rw stays (rw reads (rw target (rw over refl))) in
-            let e : true ≡ false = sym too ∙ later_done later (refers_above (rows_of run) later row refers) in cc
+        by : (choice : Decision) → one.decision ≡ choice → is_reading choice ≡ true → way_is_free known one ≡ true
+        by decision.Import is h = rw is refl
+        by decision.ReadOnly is h = rw is refl
+        by _ is h = absurd (let e : false ≡ true = h in cc)
 
-        free : is_doomed known row ≡ true → has_dependents known row ≡ false
-        free doomed = none_in_range (λ later. refers_to (rows_of known.run) later row && is_left known later) 0 (length (rows_of known.run))
-            (λ later low high h. further doomed later (subst (λ (fixed : Fixed). (refers_to (rows_of fixed) later row && is_left known later) ≡ true) (run_of run history) h))
+    -- what is carried out is only read
+    foreseen_way : (n : ℕ) (goal : Goal) (one : Decided) (about : Op) → op_of_goal known n goal one ≡ Some about → way_is_free known one ≡ true
+    foreseen_way n goal one about needs = by (is_reading one.decision) refl
+      where
+        not_carried : is_reading one.decision ≡ false → (b : Bool) → is_provided goal ≡ b → is_carried_out known goal one.decision ≡ false
+        not_carried other false is = rw is refl
+        not_carried other true is = rw is (rw preview (rw other refl))
 
-    done_from : (count row : ℕ) → length (rows_of run) ≤ row + count → is_doomed known row ≡ false
-    done_from zero row end = false_or (is_doomed known row) (λ doomed. let low = left_low run history row (doomed_left known row doomed) in omega arith)
-    done_from (suc count) row end = one_done row (λ later above. done_from count later (omega arith))
+        none_sent : is_reading one.decision ≡ false → op_of_goal known n goal one ≡ None
+        none_sent other = rw (not_carried other (is_provided goal) refl) refl
 
-    pub everything_done : IsAllDone known
-    everything_done = record { recorded = everything_recorded; none_doomed = λ row. done_from (length (rows_of run)) row (omega arith) }
+        by : (b : Bool) → is_reading one.decision ≡ b → way_is_free known one ≡ true
+        by true reads = read_way one reads
+        by false other = absurd (let e : None ≡ Some about = sym (none_sent other) ∙ needs in cc)
+
+    -- a goal is recorded once those before it are: nothing else is waited for
+    foreseen_one : (n : ℕ) (goal : Goal) → goal_at known n ≡ Some goal → ((m : ℕ) → m < n → is_recorded known m ≡ true) → is_recorded known n ≡ true
+    foreseen_one n goal stands below =
+        let one = decided_there n goal stands below in
+        let free : (is_preview known.run.mode || urn_is_free known goal one.0) ≡ true = rw preview refl in
+        let provider : provider_stands known n goal ≡ true = rw preview (rw (or_true (not (is_provider_goal goal))) refl) in
+        recorded_so n goal one.0 stands one.1 below free provider (λ about needs. foreseen_way n goal one.0 about needs)
+
+    -- so all of the first goals are
+    foreseen_below : (n : ℕ) → n ≤ length known.goals → (m : ℕ) → m < n → is_recorded known m ≡ true
+    foreseen_below zero within m low = absurd (omega arith)
+    foreseen_below (suc n) within m low =
+        let goal = numbered_at known.goals n (omega arith) in
+        let before = foreseen_below n (omega arith) in
+        at_last (λ k. is_recorded known k ≡ true) n m low before (foreseen_one n goal.0 goal.1 before)
+
+    -- and all goals
+    pub everything_foreseen : all_recorded known ≡ true
+    everything_foreseen =
+        all_in_range (is_recorded known) 0 (length known.goals)
+        (λ n low high. foreseen_below (length known.goals) (omega arith) n (omega arith))
+
+  -- ---- up and destroy
+
+  module _ (real : is_preview run.mode ≡ false) (other : is_refresh run.mode ≡ false)
+      (row_done : (row : ℕ) → was_begun history (op.Delete (subject.Row row)) ≡ true → has_number (removed_of history) row ≡ true)
+      (configured : (n : ℕ) → was_begun history (op.CheckConfig (subject.Goal n)) ≡ true → n < length known.goals
+      → was_configured history (source.Goal n) ≡ true)
+      (no_drop : (row : ℕ) → is_drop_ready known row ≡ true → row < length (rows_of run) → ⊥)
+      (taken_provided : (n : ℕ) (one : Decided) (row : ℕ) (entry : Entry) → decided_goal known n ≡ Some one
+      → is_delete_first one.decision ≡ true → takes_along known row one ≡ true → row_at known row ≡ Some entry
+      → lacks_provider entry ≡ false)
+      (urn_ready : (n : ℕ) (goal : Goal) (one : Decided) → goal_at known n ≡ Some goal → decided_goal known n ≡ Some one
+      → ((m : ℕ) → m < n → is_recorded known m ≡ true)
+      → ((m : ℕ) (before : Decided) (row : ℕ) → m < n → decided_goal known m ≡ Some before
+      → has_number (chain_of_goal run before) row ≡ true → is_left known row ≡ false)
+      → urn_is_free known goal one ≡ true)
+      (provider_row : (row : ℕ) (entry : Entry) → slice_get (rows_of run) row ≡ Some entry → is_none entry.provider ≡ false
+      → (place : ℕ) × (provider_row_of (rows_of run) row ≡ Some place))
+      (hosted : (n : ℕ) (goal : Goal) → goal_at known n ≡ Some goal → is_destroy run.mode ≡ false) where
+    -- everything of the goals below a number is done
+    record Below (n : ℕ) : Type 0 where
+      pub recorded : (m : ℕ) → m < n → is_recorded known m ≡ true
+      pub gone : (m : ℕ) (one : Decided) (row : ℕ) → m < n → decided_goal known m ≡ Some one
+          → has_number (chain_of_goal run one) row ≡ true → is_left known row ≡ false
+
+    -- ---- the rows that it takes along are gone
+
+    base_row : (row : ℕ) (entry : Entry) → slice_get (rows_of run) row ≡ Some entry → row_at known row ≡ Some entry
+    base_row row entry is = ap (λ (fixed : Fixed). slice_get (rows_of fixed) row) (run_of run history) ∙ is
+
+    -- a row that is left and is to go, on which no row depends, does not stay
+    row_goes : (row : ℕ) (entry : Entry) → slice_get (rows_of run) row ≡ Some entry → is_left known row ≡ true → is_doomed known row ≡ true
+        → has_dependents known row ≡ false → lacks_provider entry ≡ false → ⊥
+    row_goes row entry here left doomed free provided = by (is_sent entry) refl
+      where
+        at : row_at known row ≡ Some entry
+        at = base_row row entry here
+
+        low : row < length (rows_of run)
+        low = slice_get_within (rows_of run) row entry here
+
+        low_too : row < length (rows_of known.run)
+        low_too = subst (λ (fixed : Fixed). row < length (rows_of fixed)) (sym (run_of run history)) low
+
+        removable : is_removable known row ≡ true
+        removable =
+            let live : is_preview known.run.mode ≡ false = ap (λ (fixed : Fixed). is_preview fixed.mode) (run_of run history) ∙ real in
+            rw doomed (rw free (rw live refl))
+
+        begun : is_sent entry ≡ true → was_begun history (op.Delete (subject.Row row)) ≡ true
+        begun sent =
+            let some : is_none entry.provider ≡ false = subst (λ (b : Bool). (b && is_none entry.provider) ≡ false) sent provided in
+            let own = provider_row row entry here some in
+            let from : source_of_row known row ≡ Some (source_of_provider known own.0) =
+            ap (λ (fixed : Fixed). option_map (source_of_provider known) (provider_row_of (rows_of fixed) row)) (run_of run history)
+            ∙ ap (λ (o : Option ℕ). option_map (source_of_provider known) o) own.1 in
+            begun_so (op.Delete (subject.Row row)) (source_of_provider known own.0) from (delete_listed known row low_too)
+            (rw removable (rw at sent))
+
+        by : (b : Bool) → is_sent entry ≡ b → ⊥
+        by false kept = no_drop row (rw removable (rw at (rw kept refl))) low
+        by true sent =
+            let removed : has_number (removed_of known.history) row ≡ true =
+            subst (λ (events : List Event). has_number (removed_of events) row ≡ true) (sym (history_of run history)) (row_done row (begun sent)) in
+            let parts = left_parts _ (has_number (removed_of known.history) row) _ left in
+            let e : true ≡ false = sym removed ∙ parts.1 in cc
+
+    -- whether a row is the claim of what is decided, or in its chain
+    abbrev IsTaken : Decided → ℕ → Type 0
+    IsTaken one row = (is_row one.claim row ≡ true) ⊎ (has_number (chain_of_goal run one) row ≡ true)
+
+    module _ (n : ℕ) (goal : Goal) (one : Decided) (stands : goal_at known n ≡ Some goal) (decided : decided_goal known n ≡ Some one)
+        (first : is_delete_first one.decision ≡ true) (below : Below n) where
+      -- what is taken by an earlier goal too is marked
+      marked_so : (row : ℕ) → has_number (chain_of_goal run one) row ≡ true → is_left known row ≡ true → is_claimed known.decided row ≡ true
+          → is_marked known row ≡ true
+      marked_so row chained left claimed =
+          let (m, before, its, claims) = claimed_by known.decided row claimed in
+          claim-gone run history m before row its claims (below.recorded m (chained-kept run history n m row one before decided chained its claims)) left
+
+      takes_so : (row : ℕ) → IsTaken one row → is_left known row ≡ true → takes_along known row one ≡ true
+      takes_so row (inl claims) left = both (is_delete_first one.decision) _ first (rw claims refl)
+      takes_so row (inr chained) left =
+          let there : has_number (chain_of_goal known.run one) row ≡ true =
+          ap (λ (fixed : Fixed). has_number (chain_of_goal fixed one) row) (run_of run history) ∙ chained in
+          both (is_delete_first one.decision) _ first (either (is_row one.claim row) _
+          (both (has_number (chain_of_goal known.run one) row) _ there (by (is_claimed known.decided row) refl)))
+        where
+          by : (b : Bool) → is_claimed known.decided row ≡ b → (not (is_claimed known.decided row) || is_marked known row) ≡ true
+          by false is = rw is refl
+          by true is = either (not (is_claimed known.decided row)) (is_marked known row) (marked_so row chained left is)
+
+      doomed_so : (row : ℕ) → IsTaken one row → is_left known row ≡ true → is_doomed known row ≡ true
+      doomed_so row taken left =
+          let reads : is_refresh known.run.mode ≡ false = ap (λ (fixed : Fixed). is_refresh fixed.mode) (run_of run history) ∙ other in
+          let up : is_destroy known.run.mode ≡ false = ap (λ (fixed : Fixed). is_destroy fixed.mode) (run_of run history) ∙ hosted n goal stands in
+          let any : list_any (takes_along known row) known.decided ≡ true = any_numbered (takes_along known row) known.decided n one decided (takes_so row taken left) in
+          rw left (rw reads (rw up (rw any (or_true (is_over known)))))
+
+      -- a row of them on which no later one of them is left does not stay
+      one_gone : (row : ℕ) → IsTaken one row → ((later : ℕ) → row < later → IsTaken one later → is_left known later ≡ false) → is_left known row ≡ false
+      one_gone row taken later_gone = false_or (is_left known row) (λ left.
+          let there = some_at (rows_of run) row (left_low run history row left) in
+          row_goes row there.0 there.1 left (doomed_so row taken left) free
+          (taken_provided n one row there.0 decided first (takes_so row taken left) (base_row row there.0 there.1)))
+        where
+          chain_is : (own : ℕ) → one.claim ≡ Some own → chain_of_goal run one ≡ chain_of (rows_of run) own
+          chain_is own claim =
+              ap (λ (b : Bool). if b then chain_of_claim run one.claim else []) first ∙ ap (λ (o : Option ℕ). chain_of_claim run o) claim
+
+          chain_more : (later : ℕ) → refers_to (rows_of run) later row ≡ true → later < length (rows_of run) → IsTaken one row
+              → has_number (chain_of_goal run one) later ≡ true
+          chain_more later refers low (inl claims) =
+              ap (λ (places : List ℕ). has_number places later) (chain_is row (row_is one.claim row claims))
+              ∙ chain-closed (rows_of run) row later row refers low (inl refl)
+          chain_more later refers low (inr chained) =
+              let (was_first, own, claim, within) = chain-of-claim run one row chained in
+              ap (λ (places : List ℕ). has_number places later) (chain_is own claim)
+              ∙ chain-closed (rows_of run) own later row refers low (inr within)
+
+          further : (later : ℕ) → (refers_to (rows_of run) later row && is_left known later) ≡ true → ⊥
+          further later h =
+              let refers = and_left (refers_to (rows_of run) later row) (is_left known later) h in
+              let stays = and_right (refers_to (rows_of run) later row) (is_left known later) h in
+              let above : row < later = refers_above (rows_of run) later row refers in
+              let gone : is_left known later ≡ false = later_gone later above (inr (chain_more later refers (left_low run history later stays) taken)) in
+              let e : true ≡ false = sym stays ∙ gone in cc
+
+          free : has_dependents known row ≡ false
+          free = none_in_range (λ later. refers_to (rows_of known.run) later row && is_left known later) 0 (length (rows_of known.run))
+              (λ later low high h. further later (subst (λ (fixed : Fixed). (refers_to (rows_of fixed) later row && is_left known later) ≡ true) (run_of run history) h))
+
+      -- from the last row on none of them is left
+      gone_from : (count row : ℕ) → length (rows_of run) ≤ row + count → IsTaken one row → is_left known row ≡ false
+      gone_from zero row end taken = false_or (is_left known row) (λ left. let low = left_low run history row left in omega arith)
+      gone_from (suc count) row end taken =
+          one_gone row taken (λ later above more. gone_from count later (omega arith) more)
+
+      all_gone : (row : ℕ) → IsTaken one row → is_left known row ≡ false
+      all_gone row taken = gone_from (length (rows_of run)) row (omega arith) taken
+
+    -- ---- its way is free
+
+    module _ (n : ℕ) (goal : Goal) (one : Decided) (stands : goal_at known n ≡ Some goal) (decided : decided_goal known n ≡ Some one) (below : Below n) where
+      claim_gone_so : is_delete_first one.decision ≡ true → none_or (λ row. not (is_left known row)) one.claim ≡ true
+      claim_gone_so first = by one.claim refl
+        where
+          by : (o : Option ℕ) → one.claim ≡ o → none_or (λ row. not (is_left known row)) o ≡ true
+          by None is = refl
+          by (Some row) is =
+              let claims : is_row one.claim row ≡ true = ap (λ (o : Option ℕ). is_row o row) is ∙ same_number row in
+              ap (λ (b : Bool). not b) (all_gone n goal one stands decided first below row (inl claims))
+
+      way_so : way_is_free known one ≡ true
+      way_so = by (is_delete_first one.decision) refl
+        where
+          by : (b : Bool) → is_delete_first one.decision ≡ b → way_is_free known one ≡ true
+          by false is = rw is refl
+          by true is =
+              let chain : list_all (λ row. not (is_left known row)) (chain_of_goal known.run one) ≡ true =
+              subst (λ (fixed : Fixed). list_all (λ row. not (is_left known row)) (chain_of_goal fixed one) ≡ true) (sym (run_of run history))
+              (all_numbers (λ row. not (is_left known row)) (chain_of_goal run one)
+              (λ row chained. ap (λ (b : Bool). not b) (all_gone n goal one stands decided is below row (inr chained)))) in
+              either (not (is_delete_first one.decision)) _ (both (none_or (λ row. not (is_left known row)) one.claim) _ (claim_gone_so is) chain)
+
+      -- a provider is configured, as its inputs were checked
+      provider_so : provider_stands known n goal ≡ true
+      provider_so = by (is_provider_goal goal) refl
+        where
+          by : (b : Bool) → is_provider_goal goal ≡ b → provider_stands known n goal ≡ true
+          by false is = rw is refl
+          by true is =
+              let had : was_configured known.history (source.Goal n) ≡ true =
+              subst (λ (events : List Event). was_configured events (source.Goal n) ≡ true) (sym (history_of run history))
+              (configured n (config_begun run history n goal one stands decided is) (goal_below n goal stands)) in
+              rw is (rw had (or_true (is_preview known.run.mode)))
+
+      -- so it is recorded
+      done_so : is_recorded known n ≡ true
+      done_so =
+          let free : urn_is_free known goal one ≡ true = urn_ready n goal one stands decided below.recorded below.gone in
+          recorded_so n goal one stands decided below.recorded (either (is_preview known.run.mode) _ free) provider_so (λ about needs. way_so)
+
+    -- ---- all of them
+
+    below_next : (n : ℕ) (goal : Goal) → goal_at known n ≡ Some goal → Below n → Below (suc n)
+    below_next n goal stands below =
+        let one = decided_there n goal stands below.recorded in
+        record {
+          recorded = λ m low. at_last (λ k. is_recorded known k ≡ true) n m low below.recorded (done_so n goal one.0 stands one.1 below);
+          gone = λ m before row low its chained. gone_last m before row (last_or n m low) its chained;
+        }
+      where
+        gone_last : (m : ℕ) (before : Decided) (row : ℕ) → (m < n) ⊎ (m ≡ n) → decided_goal known m ≡ Some before
+            → has_number (chain_of_goal run before) row ≡ true → is_left known row ≡ false
+        gone_last m before row (inl earlier) its chained = below.gone m before row earlier its chained
+        gone_last m before row (inr same) its chained =
+            let here : decided_goal known n ≡ Some before = subst (λ (k : ℕ). decided_goal known k ≡ Some before) same its in
+            all_gone n goal before stands here (chain-of-claim run before row chained).0 below row (inr chained)
+
+    below_all : (n : ℕ) → n ≤ length known.goals → Below n
+    below_all zero low = record { recorded = λ m below. absurd (omega arith); gone = λ m one row below decided chained. absurd (omega arith) }
+    below_all (suc n) low =
+        let goal = numbered_at known.goals n (omega arith) in below_next n goal.0 goal.1 (below_all n (omega arith))
+
+    pub everything_recorded : all_recorded known ≡ true
+    everything_recorded =
+        let below = below_all (length known.goals) (omega arith) in
+        all_in_range (is_recorded known) 0 (length known.goals) (λ n low high. below.recorded n (omega arith))
+
+    -- ---- and then the rows
+
+    module _ (ended : host_ended known ≡ true)
+        (end_provided : is_over known ≡ true → (row : ℕ) (entry : Entry) → is_doomed known row ≡ true → row_at known row ≡ Some entry → lacks_provider entry ≡ false)
+        (end_target : is_over known ≡ true → (later earlier : ℕ) → is_left known later ≡ true → refers_to (rows_of run) later earlier ≡ true
+        → is_doomed known earlier ≡ true → is_target known later ≡ true) where
+      over : is_over known ≡ true
+      over = rw ended everything_recorded
+
+      one_done : (row : ℕ) → ((later : ℕ) → row < later → is_doomed known later ≡ false) → is_doomed known row ≡ false
+      one_done row later_done = false_or (is_doomed known row) (λ doomed.
+          let left = doomed_left known row doomed in
+          let there = some_at (rows_of run) row (left_low run history row left) in
+          row_goes row there.0 there.1 left doomed (free doomed) (end_provided over row there.0 doomed (base_row row there.0 there.1)))
+        where
+          further : is_doomed known row ≡ true → (later : ℕ) → (refers_to (rows_of run) later row && is_left known later) ≡ true → ⊥
+          further doomed later h =
+              let refers = and_left (refers_to (rows_of run) later row) (is_left known later) h in
+              let stays = and_right (refers_to (rows_of run) later row) (is_left known later) h in
+              let target = end_target over later row stays refers doomed in
+              let reads : is_refresh known.run.mode ≡ false = ap (λ (fixed : Fixed). is_refresh fixed.mode) (run_of run history) ∙ other in
+              let too : is_doomed known later ≡ true = rw stays (rw reads (rw target (rw over refl))) in
+              let e : true ≡ false = sym too ∙ later_done later (refers_above (rows_of run) later row refers) in cc
+
+          free : is_doomed known row ≡ true → has_dependents known row ≡ false
+          free doomed = none_in_range (λ later. refers_to (rows_of known.run) later row && is_left known later) 0 (length (rows_of known.run))
+              (λ later low high h. further doomed later (subst (λ (fixed : Fixed). (refers_to (rows_of fixed) later row && is_left known later) ≡ true) (run_of run history) h))
+
+      done_from : (count row : ℕ) → length (rows_of run) ≤ row + count → is_doomed known row ≡ false
+      done_from zero row end = false_or (is_doomed known row) (λ doomed. let low = left_low run history row (doomed_left known row doomed) in omega arith)
+      done_from (suc count) row end = one_done row (λ later above. done_from count later (omega arith))
+
+      pub everything_done : IsAllDone known
+      everything_done = record { recorded = everything_recorded; none_doomed = λ row. done_from (length (rows_of run)) row (omega arith) }

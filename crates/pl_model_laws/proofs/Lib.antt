@@ -11,10 +11,12 @@ mod Covering
 mod Dependents
 mod Distinct
 mod Ending
+mod Foreseeing
 mod Founding
 mod Freed
 mod Freeing
 mod Growing
+mod Importing
 mod Keeping
 mod Lanes
 mod Leaving
@@ -24,11 +26,13 @@ mod Pairs
 mod Places
 mod Provided
 mod Providers
+mod Pruning
 mod Quieting
 mod Recorded
 mod Referring
 mod Removing
 mod Replying
+mod Rereading
 mod Serving
 mod Sounding
 mod Sourcing

@@ -20,7 +20,7 @@ use Rattle.pl_model.specs.History.{goals_after, known_of}
 use Rattle.pl_model.specs.Known.{Known, goal_at, has_problem, host_ended}
 use Rattle.pl_model.specs.Legal.{IsLegal, MayHappen}
 use Rattle.pl_model_laws.specs.Quiet.{IsAllDone, RepliesFit}
-use Rattle.pl_model_laws.proofs.Circling.{everything_done}
+use Rattle.pl_model_laws.proofs.Circling.{IsStill, everything_done}
 use Rattle.pl_model_laws.proofs.Ending.{end-held, end-trouble}
 use Rattle.pl_model_laws.proofs.Freeing.{urn-ready}
 use Rattle.pl_model_laws.proofs.Growing.{run_of}
@@ -52,7 +52,7 @@ some_named None h = absurd (let e : false ≡ true = h in cc)
 some_named (Some x) h = (x, refl)
 
 -- in a sound list each row that names a provider finds its row
-provider_there : (rows : List Entry) (place : ℕ) (row : Entry) → IsSound rows → slice_get rows place ≡ Some row → is_none row.provider ≡ false
+pub provider_there : (rows : List Entry) (place : ℕ) (row : Entry) → IsSound rows → slice_get rows place ≡ Some row → is_none row.provider ≡ false
     → (own : ℕ) × (provider_row_of rows place ≡ Some own)
 provider_there rows place row sound here names = by row.provider refl names
   where
@@ -91,27 +91,34 @@ hosted run spelling (event ∷ past) n goal legal h =
 
 -- ---- the law
 
+-- what holds where nothing is out, due or over the limit, whatever the mode
+pub still : (run : Fixed) (spelling : Spelling) (history : List Event)
+    → IsScope run.stack → IsScope run.project → 0 < run.parallel → RepliesFit spelling → IsLegal run spelling history
+    → has_problem (known_of run history) ≡ false → IsQuiet (known_of run history) → IsStill run history
+still run spelling history stack project some fit legal calm quiet = record {
+  decided = all-decided run spelling history legal;
+  replied = λ about plain begun. reply-came run spelling fit history legal calm quiet.closed about begun;
+  goal_done = λ about number on begun. goal-recorded run spelling fit history legal calm quiet.closed about number on begun;
+  served = λ about wanted from wants listed. lanes-serve run spelling fit history legal calm quiet some about wanted from wants listed;
+  config_served = λ n wants low. config-serves (known_of run history) quiet calm n wants low;
+  no_keep = λ n ready low. no-keep (known_of run history) quiet calm n ready low;
+  unrefused = λ n one decided. refused-trouble run history n one calm decided;
+  ready_references = λ n goal before stands. references-ready run history n goal stack project before stands;
+  named = λ n goal stands provided. provided-named run history n goal stack project stands provided;
+}
+
 pub quiet-is-done : (run : Fixed) (spelling : Spelling) (history : List Event)
     → IsScope run.stack → IsScope run.project → is_preview run.mode ≡ false → is_refresh run.mode ≡ false
     → 0 < run.parallel → RepliesFit spelling → IsSound (rows_of run) → IsLegal run spelling history
     → host_ended (known_of run history) ≡ true → has_problem (known_of run history) ≡ false → IsQuiet (known_of run history)
     → IsAllDone (known_of run history)
 quiet-is-done run spelling history stack project real other some fit sound legal ended calm quiet =
-    everything_done run history real other
-    (all-decided run spelling history legal)
-    (λ about plain begun. reply-came run spelling fit history legal calm quiet.closed about begun)
-    (λ about number on begun. goal-recorded run spelling fit history legal calm quiet.closed about number on begun)
+    everything_done run history (still run spelling history stack project some fit legal calm quiet) real other
     (λ row begun. row-removed run spelling fit history legal calm quiet.closed row begun)
-    (λ about wanted from wants listed. lanes-serve run spelling fit history legal calm quiet some about wanted from wants listed)
-    (λ n wants low. config-serves (known_of run history) quiet calm n wants low)
     (λ n begun low. provider-configured run spelling fit history legal calm quiet n begun low)
-    (λ n ready low. no-keep (known_of run history) quiet calm n ready low)
     (λ row ready low. no-drop (known_of run history) quiet calm row ready
     (subst (λ (fixed : Fixed). row < length (rows_of fixed)) (sym (run_of run history)) low))
-    (λ n one decided. refused-trouble run history n one calm decided)
     (λ n one row entry decided first takes at. lacking-trouble run spelling history n row one entry legal calm decided first takes at)
-    (λ n goal before stands. references-ready run history n goal stack project before stands)
-    (λ n goal stands provided. provided-named run history n goal stack project stands provided)
     (λ n goal one stands decided before gone. urn-ready run spelling history n goal one legal (sound-apart (rows_of run) sound) stands decided before gone)
     (λ row entry here names. provider_there (rows_of run) row entry sound here names)
     (λ n goal stands. hosted run spelling history n goal legal stands)

@@ -337,10 +337,10 @@ kind_asked known n = for_kinds n (λ about. for_decided known n (sends_goal know
 
 -- ---- lists of operations
 
-any_front : {X : Type 0} (p : X → Bool) (xs ys : List X) → list_any p xs ≡ true → list_any p (xs ++ ys) ≡ true
+pub any_front : {X : Type 0} (p : X → Bool) (xs ys : List X) → list_any p xs ≡ true → list_any p (xs ++ ys) ≡ true
 any_front p xs ys h = list_any-append p xs ys ∙ ap (λ (b : Bool). b || list_any p ys) h
 
-any_back : {X : Type 0} (p : X → Bool) (xs ys : List X) → list_any p ys ≡ true → list_any p (xs ++ ys) ≡ true
+pub any_back : {X : Type 0} (p : X → Bool) (xs ys : List X) → list_any p ys ≡ true → list_any p (xs ++ ys) ≡ true
 any_back p xs ys h = list_any-append p xs ys ∙ ap (λ (b : Bool). list_any p xs || b) h ∙ or_true (list_any p xs)
 
 -- what is made of a number of a range is among what is made of all of them
@@ -353,11 +353,11 @@ any_flat p f a (suc n) k low high h = at (eq-or-lt_of_le low) (λ later. any_fla
     at (inl same) rest = any_front p (f a) (flat_map f (range_with_len (a + 1) n)) (subst (λ (j : ℕ). list_any p (f j) ≡ true) (sym same) h)
     at (inr later) rest = any_back p (f a) (flat_map f (range_with_len (a + 1) n)) (rest later)
 
-any_map : {X : Type 0} (p : X → Bool) (f : ℕ → X) (ks : List ℕ) → list_any p (map f ks) ≡ list_any (λ k. p (f k)) ks
+pub any_map : {X : Type 0} (p : X → Bool) (f : ℕ → X) (ks : List ℕ) → list_any p (map f ks) ≡ list_any (λ k. p (f k)) ks
 any_map p f [] = refl
 any_map p f (k ∷ ks) = ap (λ (b : Bool). p (f k) || b) (any_map p f ks)
 
-any_reversed : {X : Type 0} (p : X → Bool) (xs : List X) → list_any p xs ≡ true → list_any p (reverse xs) ≡ true
+pub any_reversed : {X : Type 0} (p : X → Bool) (xs : List X) → list_any p xs ≡ true → list_any p (reverse xs) ≡ true
 any_reversed p [] h = absurd (let e : false ≡ true = h in cc)
 any_reversed {X} p (x ∷ xs) h =
     ap (λ (ys : List X). list_any p ys) (reverse-append (x ∷ []) xs) ∙ by (p x) refl h (any_reversed p xs)
@@ -367,7 +367,7 @@ any_reversed {X} p (x ∷ xs) h =
     by true is h rest = any_back p (reverse xs) (x ∷ []) (rw is refl)
     by false is h rest = any_front p (reverse xs) (x ∷ []) (rest h)
 
-range_any : (p : ℕ → Bool) (a n k : ℕ) → a ≤ k → k < a + n → p k ≡ true → list_any p (range_with_len a n) ≡ true
+pub range_any : (p : ℕ → Bool) (a n k : ℕ) → a ≤ k → k < a + n → p k ≡ true → list_any p (range_with_len a n) ≡ true
 range_any p a zero k low high h = absurd (omega arith)
 range_any p a (suc n) k low high h = at (eq-or-lt_of_le low) (λ later. range_any p (a + 1) n k (omega arith) (omega arith) h)
   where

@@ -4,3 +4,5 @@ pub mod Order
 pub mod Soundness
 pub mod Covered
 pub mod Quiet
+pub mod Anew
+pub mod Foreseen

@@ -1,12 +1,14 @@
 //! What the definitions of a history come to: laws that show that they say what is meant.
 #![tactic(auto)]
 
+mod anew;
 mod apart;
 mod laws;
 mod order;
 mod quiet;
 mod soundness;
 
+pub use anew::{anew_read, anew_sound};
 pub use apart::{goals_apart, states_apart};
 pub use laws::{
     begun_once, closed_once, decisions_stay, goals_stay, recorded_once, recordings_stay,
@@ -17,5 +19,5 @@ pub use order::{
     sent_after_references,
 };
 pub use pl_model;
-pub use quiet::quiet_is_done;
+pub use quiet::{preview_recorded, quiet_is_done};
 pub use soundness::{begun_covered, states_sound};
