@@ -10,12 +10,7 @@ use Rattle.pl_model.specs.History.{asked_after, known_of}
 use Rattle.pl_model.specs.Known.{Asked, Fate, halted, refused, accepted, Known, asked_at, number_of}
 use Rattle.pl_model.specs.Legal.{IsLegal, MayHappen, last_of}
 use Rattle.pl_model.specs.Requests.{asked_by, fate_of}
-
-equal_numbers : (a b : ℕ) → (a == b) ≡ true → a ≡ b
-equal_numbers a b h = grind (arith, nat_tests)
-
-other_numbers : (a b : ℕ) → a < b → (b == a) ≡ false
-other_numbers a b h = grind (arith, nat_tests)
+use Rattle.pl_model_laws.proofs.Growing.{equal_numbers, other_numbers}
 
 below : (a b : ℕ) → nat_lt a b ≡ true → a < b
 below a b h = grind (arith, nat_tests)

@@ -36,7 +36,9 @@ use Rattle.pl_model_laws.proofs.Leaving.{claim-gone, left_parts}
 use Rattle.pl_model_laws.proofs.Once.{and_left, and_right, history_of}
 use Rattle.pl_model_laws.proofs.Standing.{answers_as}
 use Rattle.pl_model_laws.proofs.Staying.{same_op_self}
-use Rattle.pl_model_laws.proofs.Waiting.{above, all_in_range, all_numbers, any_numbered, at_last, both, carried, check_listed, checked_well, choose_some, claimed_by, config_begun, delete_listed, diff_listed, diff_provided, diffed_well, doomed_left, either, exact, false_or, inputs_well, kind_asked, kind_goal, kind_listed, kind_source, last_or, left_low, mapped_some, none_in_range, numbered_at, refers_above, row_is, sends_listed, some_at, some_named, true_or, waiting}
+use Rattle.pl_model_laws.proofs.Waiting.{above, all_in_range, all_numbers, any_numbered, at_last, carried, check_listed, checked_well, choose_some, claimed_by, config_begun, delete_listed, diff_listed, diff_provided, diffed_well, doomed_left, either, exact, false_or, inputs_well, kind_asked, kind_goal, kind_listed, kind_source, last_or, left_low, mapped_some, none_in_range, numbered_at, refers_above, sends_listed, some_named, true_or, waiting}
+use Rattle.pl_model_laws.proofs.Founding.{row_is, some_at}
+use Rattle.pl_model_laws.proofs.Working.{both}
 
 -- ---- the goals, one after another
 

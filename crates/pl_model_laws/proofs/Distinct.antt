@@ -1,6 +1,5 @@
 -- No two goals have the same URN.
-use Rattle.std.proofs.Common.{◌≡◌, ℕ, ◌==◌, Bool, true, false, not, ◌&&◌, if◌then◌else◌, List, [], ◌∷◌, length, Option, Some, None, is_some, is_none, Ok, Err, refl, sym, ◌∙◌, ap, subst, arith, option_map}
-use Rattle.std.proofs.lemmas.Bool.Decides.{nat_tests}
+use Rattle.std.proofs.Common.{◌≡◌, ℕ, ◌==◌, Bool, true, false, not, ◌&&◌, if◌then◌else◌, List, [], ◌∷◌, length, Option, Some, None, is_some, is_none, Ok, Err, refl, sym, ◌∙◌, ap, subst, option_map}
 use Rattle.std.proofs.lemmas.Slice.Eq.{bytes_eq-Decides}
 use Rattle.std.specs.List.{starts_with}
 use Rattle.std.specs.Option.{option_or}
@@ -25,22 +24,8 @@ use Rattle.pl_model.specs.Claims.{goal_number, numbered}
 use Rattle.pl_model.specs.History.{goals_after, known_of}
 use Rattle.pl_model.specs.Known.{halted, Known, goal_at, has_problem}
 use Rattle.pl_model.specs.Requests.{default_goal, default_urn, fate_by, fate_of, first_in, goal_refusal, goals_by, goals_made, has_goal, invoked_version, is_bad_default, named_provider, refusal_of, refused_if, result_refusal, unknown_references, uses_default, with_default, with_goal, with_invoked, with_provider, with_result}
-use Rattle.pl_model_laws.proofs.Growing.{run_of}
-
-equal_numbers : (a b : ℕ) → (a == b) ≡ true → a ≡ b
-equal_numbers a b h = grind (arith, nat_tests)
-
-and_left : (a b : Bool) → (a && b) ≡ true → a ≡ true
-and_left true b h = refl
-and_left false b h = absurd (let e : false ≡ true = h in cc)
-
-and_right : (a b : Bool) → (a && b) ≡ true → b ≡ true
-and_right true b h = h
-and_right false b h = absurd (let e : false ≡ true = h in cc)
-
-not_true : (a : Bool) → not a ≡ true → a ≡ false
-not_true true h = absurd (let e : false ≡ true = h in cc)
-not_true false h = refl
+use Rattle.pl_model_laws.proofs.Growing.{equal_numbers, run_of}
+use Rattle.pl_model_laws.proofs.Once.{and_left, and_right, not_true}
 
 pub none_left : {X : Type 0} (o : Option X) → is_some o ≡ false → o ≡ None
 none_left None h = refl

@@ -29,7 +29,7 @@ use Rattle.pl_model_laws.specs.Apart.{KeepsApart}
 use Rattle.pl_model_laws.specs.Order.{RecordedAfterReferences}
 use Rattle.pl_model_laws.specs.Soundness.{NameProviders, NamesProvider}
 use Rattle.pl_model_laws.proofs.Dependents.{gone_last}
-use Rattle.pl_model_laws.proofs.Growing.{run_of}
+use Rattle.pl_model_laws.proofs.Growing.{or_true, run_of}
 use Rattle.pl_model_laws.proofs.Keeping.{entries_merged, merged_apart}
 use Rattle.pl_model_laws.proofs.Once.{and_left, and_right, history_of}
 use Rattle.pl_model_laws.proofs.Pairs.{Each}
@@ -43,10 +43,7 @@ use Rattle.pl_model_laws.proofs.TakenOver.{all-decided, taken-turned}
 use Rattle.pl_model_laws.proofs.Turning.{row-turned, turned_by}
 use Rattle.pl_model_laws.proofs.TurningProviders.{provider-turned}
 use Rattle.pl_model_laws.proofs.Wants.{MeetsKinds, each_map, each_names, kinds_met, met_by_kinds, met_by_tests, named_dependency, named_parent, named_property, named_provider}
-
-or_true : (a : Bool) → (a || true) ≡ true
-or_true true = refl
-or_true false = refl
+use Rattle.pl_model_laws.proofs.Staying.{some_same}
 
 append_twice : {X : Type 0} (xs ys zs : List X) → (xs ++ ys) ++ zs ≡ xs ++ (ys ++ zs)
 append_twice [] ys zs = refl
@@ -101,15 +98,12 @@ range_has {Y = Y} test f p a (suc n) k y low high passes is holds =
         (rw passes (rw is (rw holds refl)))
     at (inr later) rest = more (p a) refl (rest later)
 
-some_at : {X : Type 0} (xs : List X) (i : ℕ) → i < length xs → (x : X) × (slice_get xs i ≡ Some x)
+pub some_at : {X : Type 0} (xs : List X) (i : ℕ) → i < length xs → (x : X) × (slice_get xs i ≡ Some x)
 some_at [] i low = absurd (omega arith)
 some_at (x ∷ xs) zero low = (x, refl)
 some_at (x ∷ xs) (suc i) low = some_at xs i (omega arith)
 
-same_some : {X : Type 0} (x y : X) → Some x ≡ Some y → x ≡ y
-same_some x y h = cc
-
-row_is : (claim : Option ℕ) (row : ℕ) → is_row claim row ≡ true → claim ≡ Some row
+pub row_is : (claim : Option ℕ) (row : ℕ) → is_row claim row ≡ true → claim ≡ Some row
 row_is None row h = absurd (let e : false ≡ true = h in cc)
 row_is (Some own) row h = ap (λ (n : ℕ). Some n) (grind (arith, nat_tests))
 
@@ -368,7 +362,7 @@ module _ (run : Fixed) (spelling : Spelling) (history : List Event) (real : is_p
         from_parent None is base urn turned = absurd (let e : None ≡ Some urn = sym (ap (λ (p : Option (List ℕ)). option_map turn p) is) ∙ turned in cc)
         from_parent (Some old) is base urn turned =
             subst (λ (text : List ℕ). list_any (has_urn text) (before place) ≡ true)
-            (same_some (turn old) urn (sym (ap (λ (p : Option (List ℕ)). option_map turn p) is) ∙ turned))
+            (some_same (turn old) urn (sym (ap (λ (p : Option (List ℕ)). option_map turn p) is) ∙ turned))
             (urn_again old (base.parent old is) (λ other has. named_parent row other old is has))
 
         from_provider : (o : Option ProviderRef) → row.provider ≡ o → MeetsKinds (take place (rows_of run)) row → (reference : ProviderRef)
@@ -376,7 +370,7 @@ module _ (run : Fixed) (spelling : Spelling) (history : List Event) (real : is_p
         from_provider None is base reference turned = absurd (let e : None ≡ Some reference = sym (ap (λ (p : Option ProviderRef). option_map turned_to p) is) ∙ turned in cc)
         from_provider (Some old) is base reference turned =
             subst (λ (one : ProviderRef). list_any (is_provider one) (before place) ≡ true)
-            (same_some (turned_to old) reference (sym (ap (λ (p : Option ProviderRef). option_map turned_to p) is) ∙ turned))
+            (some_same (turned_to old) reference (sym (ap (λ (p : Option ProviderRef). option_map turned_to p) is) ∙ turned))
             (provider_again old (proper_reference old is) (base.provider old is) (λ other has. named_provider row other old is has))
 
   -- ---- all of them

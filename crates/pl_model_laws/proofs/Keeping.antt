@@ -1,6 +1,5 @@
 -- Two entries of a state that are to stay have URNs of their own.
-use Rattle.std.proofs.Common.{◌≡◌, ◌≢◌, ℕ, ◌<◌, ◌≤◌, ◌==◌, Bool, true, false, ◌||◌, List, [], ◌∷◌, ◌++◌, filter, get_or, if◌then◌else◌, length, option_map, reverse, slice_get, Option, Some, None, is_some, refl, sym, ◌∙◌, ap, subst, arith}
-use Rattle.std.proofs.lemmas.Bool.Decides.{nat_tests}
+use Rattle.std.proofs.Common.{◌≡◌, ◌≢◌, ℕ, ◌<◌, ◌≤◌, ◌==◌, Bool, true, false, List, [], ◌∷◌, ◌++◌, filter, get_or, if◌then◌else◌, length, option_map, reverse, slice_get, Option, Some, None, is_some, refl, sym, ◌∙◌, ap, subst}
 use Rattle.std.proofs.lemmas.Option.{get_or_from_slice_get, slice_get_within}
 use Rattle.pl_urn.specs.Grammar.{IsScope}
 use Rattle.pl_state.specs.declared.entry.Entry.{Entry}
@@ -18,26 +17,17 @@ use Rattle.pl_model.specs.State.{refreshed_entries, state_of}
 use Rattle.pl_model_laws.specs.Apart.{AreApart, KeepsApart}
 use Rattle.pl_model_laws.proofs.Distinct.{goals-apart}
 use Rattle.pl_model_laws.proofs.Freed.{free-recorded}
-use Rattle.pl_model_laws.proofs.Growing.{run_of}
+use Rattle.pl_model_laws.proofs.Growing.{or_true, run_of, same_number}
 use Rattle.pl_model_laws.proofs.Leaving.{claim-gone, unmarked-urn}
 use Rattle.pl_model_laws.proofs.Once.{history_of}
 use Rattle.pl_model_laws.proofs.Pairs.{Each, Pairwise, each-mapped, each-passes, each-reverse, each-weaker, once_apart, pairs-all, pairs-append, pairs-filter, pairs-mapped, pairs-reverse, pairs-with, range_rises}
 use Rattle.pl_model_laws.proofs.Recorded.{recorded-held, recorded_at_most_once}
 use Rattle.pl_model_laws.proofs.Standing.{entry-there, recording-there}
-
-same_some : {X : Type 0} (x y : X) → Some x ≡ Some y → x ≡ y
-same_some x y h = cc
+use Rattle.pl_model_laws.proofs.Staying.{some_same}
 
 some_map : {X Y : Type 0} (f : X → Y) (o : Option X) (y : Y) → option_map f o ≡ Some y → (x : X) × (o ≡ Some x) × (f x ≡ y)
-some_map f (Some x) y h = (x, refl, same_some (f x) y h)
+some_map f (Some x) y h = (x, refl, some_same (f x) y h)
 some_map f None y h = absurd (let e : None ≡ Some y = h in cc)
-
-or_true : (a : Bool) → (a || true) ≡ true
-or_true true = refl
-or_true false = refl
-
-same_number : (n : ℕ) → (n == n) ≡ true
-same_number n = grind (arith, nat_tests)
 
 -- each number of a list stands in it
 each_there : (all numbers : List ℕ) → ((n : ℕ) → has_number numbers n ≡ true → has_number all n ≡ true) → Each (λ n. has_number all n ≡ true) numbers
@@ -67,7 +57,7 @@ module _ (run : Fixed) (spelling : Spelling) (history : List Event)
       let there = recorded-held run spelling history number legal recorded in
       let found = recording-there run history number there.0 there.1 recorded in
       let whole = entry-there known number there.0 there.1 found.0 there.2.stands there.2.decided found.1 in
-      let same : whole.0 ≡ row = same_some whole.0 row (sym whole.1 ∙ is) in
+      let same : whole.0 ≡ row = some_same whole.0 row (sym whole.1 ∙ is) in
       record { goal = there.0; stands = there.2.stands; urn = sym (ap (λ (one : Entry). one.urn) same) ∙ whole.2.urn }
 
   abbrev numbers : List ℕ
@@ -115,7 +105,7 @@ module _ (run : Fixed) (spelling : Spelling) (history : List Event)
       let was = some_map (row_now known number) (row_at known number) row is in
       let unmarked : is_marked known number ≡ false = ap (λ (one : Entry). one.doomed) was.2 ∙ stays in
       let now = unmarked-urn run history number was.0 apart all_decided was.1 left unmarked in
-      let same : now.0 ≡ row = same_some now.0 row (sym now.1 ∙ is) in
+      let same : now.0 ≡ row = some_same now.0 row (sym now.1 ∙ is) in
       record {
         entry = was.0;
         stands = sym (ap (λ (fixed : Fixed). slice_get (rows_of fixed) number) (run_of run history)) ∙ was.1;
@@ -165,7 +155,7 @@ module _ (run : Fixed) (spelling : Spelling) (history : List Event)
       let listed : has_number (recorded_of history) number ≡ true =
       subst (λ (events : List Event). has_number (recorded_of events) number ≡ true) (history_of run history) recorded in
       let free = free-recorded run spelling real apart history number legal listed in
-      let goal_same : free.goal ≡ a.goal = same_some free.goal a.goal (sym free.stands ∙ a.stands) in
+      let goal_same : free.goal ≡ a.goal = some_same free.goal a.goal (sym free.stands ∙ a.stands) in
       free.none row b.entry b.stands left b.unmarked (unclaimed number row free.one recorded free.decided left b.unmarked)
       (sym b.urn ∙ sym same ∙ a.urn ∙ sym (ap (λ (goal : Goal). goal.urn) goal_same))
 

@@ -1,6 +1,5 @@
 -- What a legal history does once.
 use Rattle.std.proofs.Common.{◌≡◌, ℕ, ◌==◌, ◌≤◌, Bool, true, false, not, ◌&&◌, ◌||◌, if◌then◌else◌, List, [], ◌∷◌, filter, length, refl, ◌∙◌, ap, subst, arith}
-use Rattle.std.proofs.lemmas.Bool.Decides.{nat_tests}
 use Rattle.std.specs.List.{list_any}
 use Rattle.pl_events.specs.declared.event.Event.{Event}
 use Rattle.pl_events.specs.declared.event.What.{What}
@@ -18,9 +17,7 @@ use Rattle.pl_model.specs.Known.{Known, has_problem}
 use Rattle.pl_model.specs.Legal.{IsLegal, MayHappen, is_seats}
 use Rattle.pl_model.specs.Tickets.{Errand, begun_of, closes, is_closed, is_open, same_op, same_source, same_subject, was_begun}
 use Rattle.pl_model_laws.specs.Laws.{is_configure}
-
-equal_numbers : (a b : ℕ) → (a == b) ≡ true → a ≡ b
-equal_numbers a b h = grind (arith, nat_tests)
+use Rattle.pl_model_laws.proofs.Growing.{equal_numbers}
 
 pub and_left : (a b : Bool) → (a && b) ≡ true → a ≡ true
 and_left true b h = refl

@@ -32,6 +32,7 @@ use Rattle.pl_model_laws.proofs.TakenOver.{all-decided}
 use Rattle.pl_model_laws.proofs.Troubles.{lacking-trouble, refused-trouble}
 use Rattle.pl_model_laws.proofs.Wants.{kinds_met}
 use Rattle.pl_model_laws.proofs.Working.{config-serves, no-drop, no-keep}
+use Rattle.pl_model_laws.proofs.Waiting.{some_named}
 
 -- ---- the provider of a row
 
@@ -46,10 +47,6 @@ last_there test place (row ∷ rows) h = by (test row) refl (last_from test (suc
     by b is (Some later) found h rest = rw found refl
     by true is None found h rest = rw found (rw is refl)
     by false is None found h rest = absurd (let e : false ≡ true = sym (ap (λ (o : Option ℕ). is_some o) found) ∙ rest h in cc)
-
-some_named : {X : Type 0} (o : Option X) → is_some o ≡ true → (x : X) × (o ≡ Some x)
-some_named None h = absurd (let e : false ≡ true = h in cc)
-some_named (Some x) h = (x, refl)
 
 -- in a sound list each row that names a provider finds its row
 pub provider_there : (rows : List Entry) (place : ℕ) (row : Entry) → IsSound rows → slice_get rows place ≡ Some row → is_none row.provider ≡ false

@@ -12,10 +12,8 @@ use Rattle.pl_state.specs.declared.fault.Missing.{Missing}
 use Rattle.pl_state.specs.declared.fault.Missing.TheVariants.{Twice, Parent, Provider, Dependency}
 use Rattle.pl_model_laws.proofs.Pairs.{Each, each-append}
 use Rattle.pl_model_laws.specs.Apart.{KeepsApart}
-
-or_true : (a : Bool) → (a || true) ≡ true
-or_true true = refl
-or_true false = refl
+use Rattle.pl_model_laws.proofs.Growing.{or_true}
+use Rattle.pl_model_laws.proofs.Staying.{some_same}
 
 -- what a row refers to
 abbrev pub references : Entry → List Missing
@@ -53,9 +51,6 @@ which at n = by (nat_lt at n) refl (nat_lt n at) refl
     by false is true other = inr (inr (grind (arith, nat_tests)))
     by false is false other = inr (inl (grind (arith, nat_tests)))
 
-same_some : {X : Type 0} (x y : X) → Some x ≡ Some y → x ≡ y
-same_some x y h = cc
-
 pub refers-none : RefersBack []
 refers-none = λ at row is. absurd (let e : None ≡ Some row = is in cc)
 
@@ -70,7 +65,7 @@ refers-more rows row back met = λ at one is. by at one is (which at (length row
     by at one is (inr (inl here)) =
         let found : slice_get (rows ++ row ∷ []) (length rows) ≡ Some one =
         subst (λ (n : ℕ). slice_get (rows ++ row ∷ []) n ≡ Some one) here is in
-        let same : row ≡ one = same_some row one (sym (get_seam rows row) ∙ found) in
+        let same : row ≡ one = some_same row one (sym (get_seam rows row) ∙ found) in
         subst (λ (n : ℕ). AreMet (take n (rows ++ row ∷ [])) (references one)) (sym here)
         (subst (λ (front : List Entry). AreMet front (references one)) (sym (take-append_seam rows (row ∷ [])))
         (subst (λ (it : Entry). AreMet rows (references it)) same met))

@@ -17,7 +17,7 @@ use Rattle.pl_model.specs.Rows.{is_taken_over, stands_beside}
 use Rattle.pl_model_laws.specs.Apart.{KeepsApart}
 use Rattle.pl_model_laws.proofs.Claiming.{claims-allowed, was-made, where_found}
 use Rattle.pl_model_laws.proofs.Growing.{equal_numbers, or_true, run_of, same_number}
-use Rattle.pl_model_laws.proofs.Leaving.{claimed-once}
+use Rattle.pl_model_laws.proofs.Leaving.{claimed-once, neither}
 use Rattle.pl_model_laws.proofs.Recorded.{recorded-held}
 use Rattle.pl_model_laws.proofs.Standing.{claim-of-decided, some_there}
 use Rattle.pl_model_laws.proofs.Staying.{some_same}
@@ -27,11 +27,6 @@ use Rattle.pl_model_laws.proofs.Turning.{IsTurning, other-turn, own-turn, turned
 pub first_true : (a : Bool) → (a || false) ≡ true → a ≡ true
 first_true true h = refl
 first_true false h = absurd (let e : false ≡ true = h in cc)
-
--- where none of two holds, each does not
-pub neither : (a b : Bool) → (a || b) ≡ false → (a ≡ false) × (b ≡ false)
-neither true b h = absurd (let e : true ≡ false = h in cc)
-neither false b h = (refl, h)
 
 -- ---- the row of a claim
 

@@ -21,12 +21,12 @@ use Rattle.pl_model_laws.specs.Apart.{KeepsApart}
 use Rattle.pl_model_laws.proofs.Claiming.{claims-allowed, provider-stays, was-made, where_found}
 use Rattle.pl_model_laws.proofs.Freed.{free-recorded}
 use Rattle.pl_model_laws.proofs.Growing.{run_of, same_number}
-use Rattle.pl_model_laws.proofs.Leaving.{claimed-once}
+use Rattle.pl_model_laws.proofs.Leaving.{claimed-once, neither}
 use Rattle.pl_model_laws.proofs.Once.{history_of}
 use Rattle.pl_model_laws.proofs.Recorded.{recording-held, recording-new}
 use Rattle.pl_model_laws.proofs.Removing.{Later, later-before, later-now, never-marked, never-removed}
 use Rattle.pl_model_laws.proofs.Staying.{recorded-as, some_same}
-use Rattle.pl_model_laws.proofs.TakenOver.{AllDecided, AreRecorded, all-decided, first-turned, first_true, neither, taker, turning_row}
+use Rattle.pl_model_laws.proofs.TakenOver.{AllDecided, AreRecorded, all-decided, first-turned, first_true, taker, turning_row}
 use Rattle.pl_model_laws.proofs.Turning.{other-turn, turned-of, turned_at, turned_by, turned_of, turning_parts}
 
 -- what is alike to something true is true

@@ -1,5 +1,5 @@
 -- Small facts for the law that nothing waits in a circle: the goal that waits to be decided, what it needs, and rows.
-use Rattle.std.proofs.Common.{◌≡◌, ◌≢◌, ℕ, zero, suc, ◌+◌, ◌<◌, ◌≤◌, ◌==◌, Bool, true, false, not, ◌&&◌, ◌||◌, if◌then◌else◌, List, [], ◌∷◌, ◌++◌, length, map, nat_lt, option_and_then, option_map, reverse, slice_get, Option, Some, None, is_some, refl, sym, ◌∙◌, ap, subst, inl, inr, ◌⊎◌, arith, eq-or-lt_of_le}
+use Rattle.std.proofs.Common.{◌≡◌, ◌≢◌, ℕ, zero, suc, ◌+◌, ◌<◌, ◌≤◌, ◌==◌, Bool, true, false, not, ◌&&◌, ◌||◌, if◌then◌else◌, List, [], ◌∷◌, ◌++◌, length, map, nat_lt, option_and_then, option_map, reverse, Option, Some, None, is_some, refl, sym, ◌∙◌, ap, subst, inl, inr, ◌⊎◌, arith, eq-or-lt_of_le}
 use Rattle.std.proofs.lemmas.Bool.Decides.{nat_tests}
 use Rattle.std.proofs.lemmas.List.{reverse-append}
 use Rattle.std.proofs.lemmas.List.Folds.{list_any-append}
@@ -47,10 +47,6 @@ false_or false h = refl
 pub true_or : (b : Bool) → (b ≡ false → ⊥) → b ≡ true
 true_or true h = refl
 true_or false h = absurd (h refl)
-
-pub both : (a b : Bool) → a ≡ true → b ≡ true → (a && b) ≡ true
-both true b h k = k
-both false b h k = absurd (let e : false ≡ true = h in cc)
 
 pub either : (a b : Bool) → b ≡ true → (a || b) ≡ true
 either true b h = refl
@@ -218,15 +214,6 @@ config_begun run history n goal one stands decided provider =
     (subst (λ (events : List Event). reply_to (answers_of events) (op.CheckConfig (subject.Goal n)) ≡ Some came.0) (history_of run history) known_now)
 
 -- ---- rows
-
-pub row_is : (claim : Option ℕ) (row : ℕ) → is_row claim row ≡ true → claim ≡ Some row
-row_is None row h = absurd (let e : false ≡ true = h in cc)
-row_is (Some own) row h = ap (λ (n : ℕ). Some n) (grind (arith, nat_tests))
-
-pub some_at : {X : Type 0} (xs : List X) (i : ℕ) → i < length xs → (x : X) × (slice_get xs i ≡ Some x)
-some_at [] i low = absurd (omega arith)
-some_at (x ∷ xs) zero low = (x, refl)
-some_at (x ∷ xs) (suc i) low = some_at xs i (omega arith)
 
 pub numbered_at : {X : Type 0} (xs : List X) (n : ℕ) → n < length xs → (x : X) × (numbered xs n ≡ Some x)
 numbered_at [] n low = absurd (omega arith)

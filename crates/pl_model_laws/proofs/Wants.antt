@@ -10,10 +10,7 @@ use Rattle.pl_state.specs.declared.fault.Missing.TheVariants.{Parent, Provider, 
 use Rattle.pl_model_laws.proofs.Pairs.{Each, each-append}
 use Rattle.pl_model_laws.proofs.Referring.{MeetsReferences}
 use Rattle.pl_model_laws.proofs.Sounding.{AreMet, references}
-
-or_true : (a : Bool) → (a || true) ≡ true
-or_true true = refl
-or_true false = refl
+use Rattle.pl_model_laws.proofs.Growing.{or_true}
 
 -- ---- wants by their kinds
 
