@@ -12,6 +12,7 @@ use Rattle.pl_model.specs.Claims.{Decided, chain_of_claim, chain_of_goal, is_cha
 use Rattle.pl_model.specs.History.{known_of}
 use Rattle.pl_model.specs.Known.{decided_goal}
 use Rattle.pl_model.specs.Recording.{has_number}
+use Rattle.pl_model_laws.specs.Closure.{IsHandedOn}
 use Rattle.pl_model_laws.proofs.Claiming.{claim_is, claims-allowed, numbered_behind, numbered_passes, was-made}
 use Rattle.pl_model_laws.proofs.Growing.{Grown, equal_numbers, or_true, same_number}
 use Rattle.pl_model_laws.proofs.Once.{and_left}
@@ -172,6 +173,30 @@ module _ (rows : List Entry) (at : ℕ) where
 pub chain-closed : (rows : List Entry) (at later earlier : ℕ) → refers_to rows later earlier ≡ true → later < length rows
     → (earlier ≡ at) ⊎ (has_number (chain_of rows at) earlier ≡ true) → has_number (chain_of rows at) later ≡ true
 chain-closed rows at later earlier = among_closed rows at (length rows) later earlier
+
+-- the chain has nothing but what is handed on from the row
+module _ (rows : List Entry) (at : ℕ) (property : ℕ → Bool) (handed : IsHandedOn rows at property) where
+  joined_has : (chain : List ℕ) (place : ℕ) → ((row : ℕ) → has_number chain row ≡ true → property row ≡ true)
+      → joins rows at chain place ≡ true → property place ≡ true
+  joined_has chain place each h = by (refers_to rows place at) refl h
+    where
+      by : (b : Bool) → refers_to rows place at ≡ b → (b || list_any (refers_to rows place) chain) ≡ true → property place ≡ true
+      by true is h = handed.direct place is
+      by false is h =
+          let found = passing_has (refers_to rows place) chain h in
+          handed.through place found.0 found.2 (each found.0 found.1)
+
+  among_has : (count row : ℕ) → has_number (chain_among rows at count) row ≡ true → property row ≡ true
+  among_has zero row h = absurd (let e : false ≡ true = h in cc)
+  among_has (suc count) row h = by (with_parts rows at (chain_among rows at count) count row h) (among_has count)
+    where
+      by : ((count ≡ row) × (joins rows at (chain_among rows at count) count ≡ true)) ⊎ (has_number (chain_among rows at count) row ≡ true)
+          → ((place : ℕ) → has_number (chain_among rows at count) place ≡ true → property place ≡ true) → property row ≡ true
+      by (inl here) each = subst (λ (place : ℕ). property place ≡ true) here.0 (joined_has (chain_among rows at count) count each here.1)
+      by (inr before) each = each row before
+
+  pub chain-least : (row : ℕ) → has_number (chain_of rows at) row ≡ true → property row ≡ true
+  chain-least row h = among_has (length rows) row h
 
 -- the rows of a chain are rows, and stand behind its own
 pub chain-within : (rows : List Entry) (at row : ℕ) → has_number (chain_of rows at) row ≡ true → (at < row) × (row < length rows)

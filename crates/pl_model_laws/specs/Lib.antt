@@ -6,3 +6,4 @@ pub mod Covered
 pub mod Quiet
 pub mod Anew
 pub mod Foreseen
+pub mod Closure

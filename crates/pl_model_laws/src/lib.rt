@@ -3,6 +3,7 @@
 
 mod anew;
 mod apart;
+mod closure;
 mod laws;
 mod order;
 mod quiet;
@@ -10,6 +11,7 @@ mod soundness;
 
 pub use anew::{anew_read, anew_sound};
 pub use apart::{goals_apart, states_apart};
+pub use closure::{chain_closed, chain_least};
 pub use laws::{
     begun_once, closed_once, decisions_stay, goals_stay, recorded_once, recordings_stay,
     requests_stay,
