@@ -2,5 +2,11 @@ pub mod AtSegment
 pub mod Depths
 pub mod Levels
 pub mod OnLiterals
+pub mod OnTheWay
+pub mod ReadIsWritten
+pub mod Refused
+pub mod SetBack
 pub mod StaysSound
 pub mod StepByStep
+pub mod UnderKeys
+pub mod WrittenIsRead

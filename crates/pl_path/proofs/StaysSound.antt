@@ -274,7 +274,7 @@ elements_level (Value-F.Object fields) is = refl
 elements_level (Value-F.Secret inner) is = refl
 elements_level Value-F.Unknown is = refl
 
-abbrev BareIs : Value → Type 0
+abbrev pub BareIs : Value → Type 0
 BareIs one = is_value one ≡ true → is_value (bare one) ≡ true
 
 abbrev KeptBare : Type 0
@@ -295,7 +295,7 @@ bare_level_is (Value-F.Secret kept) =
     subst BareIs (sym (value.rolls-Secret kept.0)) (λ h. ap is_value (bare-Secret kept.0) ∙ kept.1 (sym (is_value-Secret kept.0) ∙ h))
 bare_level_is Value-F.Unknown = subst BareIs (sym value.rolls-Unknown) (λ h. ap is_value bare-Unknown ∙ h)
 
-bare_is : (one : Value) → BareIs one
+pub bare_is : (one : Value) → BareIs one
 bare_is = ind-Value BareIs (λ x y is. subst (λ (z : Value-F Value). BareIs (roll-Value z)) is (bare_level_is y))
 
 opened_is : (one : Value) → is_value one ≡ true → is_value (roll-Value (out-Value one)) ≡ true
@@ -308,6 +308,19 @@ inside_is (Key key) holder is =
 inside_is (Index place) holder is =
     inside_place place (elements_of holder) (inside (Index place) holder) refl
     (elements_level (out-Value (bare holder)) (opened_is (bare holder) (bare_is holder is)))
+
+if_inside : (segment : Segment) (got : Option Value) (one : Value) → IsInside segment got → got ≡ Some one → is_value one ≡ true
+unfolding IsInside
+if_inside segment None one is same = cc
+if_inside segment (Some got) one is same = let there : got ≡ one = cc in ap is_value (sym there) ∙ is.0
+
+pub inside_value : (segment : Segment) (holder one : Value) → is_value holder ≡ true → inside segment holder ≡ Some one → is_value one ≡ true
+inside_value segment holder one is same = if_inside segment (inside segment holder) one (inside_is segment holder is) same
+
+pub under_value : (key : List ℕ) (fields : Pairs) (one : Value) → are_fields fields ≡ true → keys.value_at key fields ≡ Some one → is_value one ≡ true
+under_value key fields one sound same =
+    let parts = are_fields-parts fields sound in
+    if_inside (Key key) (keys.value_at key fields) one (inside_key key fields parts.1 parts.2) same
 
 found_is : (path : List Segment) (holder : Value) → is_value holder ≡ true → IsOld path (found_in path holder)
 unfolding IsOld may_stand_last

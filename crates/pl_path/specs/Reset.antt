@@ -112,9 +112,13 @@ are_too_deep fields = list_any (λ field. is_too_deep field.1) fields
 abbrev pub unless_too_deep : List (List ℕ × Value) → List (List ℕ × Value) → List (List ℕ × Value)
 unless_too_deep before changed = if are_too_deep changed then before else changed
 
+-- the fields set back at the segments to the old ones, however deep they become
+abbrev pub set_back : List Segment → List (List ℕ × Value) → List (List ℕ × Value) → List (List ℕ × Value)
+set_back path new old = reset_fields path (found_at path old) new
+
 -- the fields set back at the segments to the old ones
 abbrev pub reset_along : List Segment → List (List ℕ × Value) → List (List ℕ × Value) → List (List ℕ × Value)
-reset_along path new old = unless_too_deep new (reset_fields path (found_at path old) new)
+reset_along path new old = unless_too_deep new (set_back path new old)
 
 -- the fields set back to the old ones at the path that a text is
 unfoldable pub reset_at : List ℕ → List (List ℕ × Value) → List (List ℕ × Value) → List (List ℕ × Value)

@@ -3,6 +3,7 @@
 
 mod fault;
 mod found;
+mod laws;
 mod parsing;
 mod reading;
 mod reset;
@@ -13,6 +14,7 @@ mod vectors;
 
 pub use fault::PathFault;
 pub use found::get;
+pub use laws::{paths_are_written, reset_holds_old};
 pub use parsing::parse;
 pub use pl_value;
 pub use reset::reset_to_old;

@@ -1,5 +1,6 @@
 ghost use Rattle.std.specs.Prelude.{◌≡◌, [], IfOk};
-ghost use Rattle.pl_path.specs.Grammar as spec;
+ghost use Rattle.pl_path.specs.Steps as spec;
+ghost use Rattle.pl_path.specs.Written as grammar;
 
 use crate::segment::{Path, Segment};
 use pl_value::{Bytes, OutOfMemory};
@@ -73,7 +74,7 @@ impl Reading {
     }
 
     /// What was read after one byte more, if that may stand here.
-    #[tactic(auto, unfolding(crate::specs::Grammar::step))]
+    #[tactic(auto, unfolding(crate::specs::Steps::step))]
     pub fn step(self, byte: u8) -> Result<Option<Reading>, OutOfMemory>
         ensures { IfOk result (λ after. after ≡ spec.step self byte) }
     {
@@ -93,7 +94,7 @@ impl Reading {
     }
 
     /// The segments, where a path may end here.
-    #[tactic(auto, unfolding(crate::specs::Grammar::ended))]
+    #[tactic(auto, unfolding(crate::specs::Steps::ended))]
     pub fn end(self) -> Result<Option<Path>, OutOfMemory>
         ensures { IfOk result (λ path. path ≡ spec.ended self) }
     {
@@ -269,7 +270,7 @@ impl Reading {
 }
 
 fn is_name_byte(byte: u8) -> bool
-    ensures { result ≡ spec.is_name_byte byte }
+    ensures { result ≡ grammar.is_name_byte byte }
 {
     !(byte == b'.' || byte == b'[' || byte == b']' || byte == b'"')
 }

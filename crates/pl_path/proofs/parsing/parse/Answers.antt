@@ -1,6 +1,7 @@
 use Rattle.std.proofs.Common.{rules, ◌≡◌, ℕ, ◌≤◌, List, Some, None, Err, get_or, length, sym, ap, ◌∙◌}
-use Rattle.pl_path.specs.Grammar.{ended, refused_at, step}
-use Rattle.pl_path.proofs.StepByStep.{is_read, is_refused, reads_end, reads_one}
+use Rattle.pl_path.specs.Steps.{ended, refused_at, step}
+use Rattle.pl_path.proofs.Refused.{read_is_written, refused_is_place}
+use Rattle.pl_path.proofs.StepByStep.{is_read, is_refused, read_back, reads_end, reads_one, refused_back}
 use Rattle.pl_path.proofs.parsing.parse.Goals as goal
 
 pub returns-in-None-clause-refused : goal.returns-in-None-clause-refused
@@ -34,3 +35,16 @@ returns-in-None-2-clause-refused c =
     ap (refused_at c.loop-at.reading.place) at ∙ sym c.refused_at-in-None-2.ensures in
     is_refused c.args.text.now c.refused_at-in-None-2.result
     (sym c.loop-at.invariant ∙ reads_end c.loop-at.reading c.loop-at.at bytes None all none ∙ ap Err place)
+
+pub returns-in-Some-2-clause-written : goal.returns-in-Some-2-clause-written
+returns-in-Some-2-clause-written c =
+    read_is_written c.args.text.now c.in-Some-2.path (read_back c.args.text.now c.in-Some-2.path (returns-in-Some-2-clause-read c))
+
+pub returns-in-None-clause-place : goal.returns-in-None-clause-place
+returns-in-None-clause-place c =
+    refused_is_place c.args.text.now c.refused_at.result (refused_back c.args.text.now c.refused_at.result (returns-in-None-clause-refused c))
+
+pub returns-in-None-2-clause-place : goal.returns-in-None-2-clause-place
+returns-in-None-2-clause-place c =
+    refused_is_place c.args.text.now c.refused_at-in-None-2.result
+    (refused_back c.args.text.now c.refused_at-in-None-2.result (returns-in-None-2-clause-refused c))

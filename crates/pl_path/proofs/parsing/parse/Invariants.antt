@@ -1,5 +1,6 @@
 use Rattle.std.proofs.Common.{◌≡◌, drop}
-use Rattle.pl_path.specs.Grammar.{path_in, reads_on}
+use Rattle.pl_path.specs.Grammar.{path_in}
+use Rattle.pl_path.specs.Steps.{reads_on}
 use Rattle.pl_path.proofs.parsing.parse.Given as goal
 
 -- what is left to read decides all
