@@ -1,6 +1,12 @@
 pub mod Levels
+pub mod MemberKeys
 pub mod Members
 pub mod NoFloat
+pub mod ReadBack
+pub mod Readings
+pub mod Shallow
+pub mod SpelledIsRead
+pub mod SpellingShape
 pub mod TextTells
 pub mod ValueTells
 pub mod Wholes

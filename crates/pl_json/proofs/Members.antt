@@ -24,7 +24,7 @@ below_at low (field ∷ more) zero d within all = (and_parts (is_below low field
 below_at low (field ∷ more) (suc place) d within all =
     below_at low more place d (omega arith) (and_parts (is_below low field.0) (list_all (is_below low) (keys_of more)) all).1
 
-less_from : (o : Ordering) → is_less o ≡ true → o ≡ Less
+pub less_from : (o : Ordering) → is_less o ≡ true → o ≡ Less
 less_from Less below = refl
 less_from Equal below = cc
 less_from Greater below = cc

@@ -59,7 +59,7 @@ same_number m n v w same =
 -- ---- each number's text is a number
 
 mutual
-  HasNumbers-outline : (d : Data) → HasWholes d → HasNumbers (outline d)
+  pub HasNumbers-outline : (d : Data) → HasWholes d → HasNumbers (outline d)
   HasNumbers-outline null w = tt
   HasNumbers-outline (boolean b) w = tt
   HasNumbers-outline (number n) w = is_number n w

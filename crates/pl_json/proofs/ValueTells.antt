@@ -199,7 +199,7 @@ text_tells_value one other a b c d same =
 
 -- ---- objects
 
-object_fits : (fields : List (List ℕ × Value)) → list_all (λ field. wholes_fit field.1) fields ≡ true → wholes_fit (value.Object fields) ≡ true
+pub object_fits : (fields : List (List ℕ × Value)) → list_all (λ field. wholes_fit field.1) fields ≡ true → wholes_fit (value.Object fields) ≡ true
 object_fits fields fit =
     ap wholes_fit (sym (value.rolls-Object fields)) ∙ fold-roll-Value Bool wholes_fit_level (Value-F.Object fields)
     ∙ list_all-map (λ (field : List ℕ × Bool). field.1) (λ field. (field.0, wholes_fit field.1)) fields ∙ fit

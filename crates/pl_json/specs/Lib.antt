@@ -1,3 +1,5 @@
+pub mod Faults
 pub mod Fits
 pub mod Laws
+pub mod Read
 pub mod Spelled

@@ -4,12 +4,10 @@ ghost use Rattle.pl_json.specs.Spelled.{secret_data, spelled, spelled_fields, sp
 ghost use Rattle.serde_json.specs.View.{view, items_view, members_view};
 ghost use Rattle.serde_json.specs.Written.{compact_text, has_float};
 
+use crate::keys::plaintext_key;
 use pl_value::{Fields, OutOfMemory, Text, Value, secret_key, secret_mark, unknown_text};
 use serde_json::{Map, Value as Json, put};
 use std::alloc::Global;
-
-/// The key under which the object of a secret holds the text of its value.
-const PLAINTEXT_KEY: &str = "plaintext";
 
 /// The value in JSON. A secret holds the text of its value, so each secret around another doubles the escapes
 /// inside: from some depth on there is no memory for it.
@@ -63,7 +61,7 @@ fn spell_secret(alloc: Global, inner: &Json) -> Result<Json, OutOfMemory>
     let mark = Json::try_from_str(alloc, secret_mark())?;
     let mut members = Map::new(alloc);
     put(&mut members, alloc, secret_key(), mark)?;
-    put(&mut members, alloc, PLAINTEXT_KEY, Json::String(text))?;
+    put(&mut members, alloc, plaintext_key(), Json::String(text))?;
     Ok(Json::Object(members))
 }
 
