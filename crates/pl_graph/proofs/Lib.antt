@@ -1,0 +1,4 @@
+pub mod Closures
+pub mod Dependents
+pub mod Members
+pub mod Order

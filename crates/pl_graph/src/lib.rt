@@ -1,0 +1,11 @@
+//! The references between rows: whether each goes to a row before, which rows refer to a row, and which reach it
+//! through others.
+#![tactic(auto)]
+
+mod graph;
+mod marks;
+#[cfg(test)]
+mod tests;
+
+pub use graph::Graph;
+pub use pl_text::{OutOfMemory, Rows};
