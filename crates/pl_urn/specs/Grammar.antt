@@ -50,10 +50,14 @@ name_of text = after_cut (after_cut (after_cut (parts_of text)))
 abbrev pub own_type_of : List ℕ → List ℕ
 own_type_of text = after_last is_dollar (qualified_type_of text)
 
+-- whether a type is that of a provider
+abbrev pub is_provider_type : List ℕ → Bool
+is_provider_type kind = starts_with (λ a b. a == b) kind provider_prefix
+
 -- the package of a type: that of a provider is the one that it provides
 abbrev pub type_package : List ℕ → List ℕ
 type_package kind =
-    if starts_with (λ a b. a == b) kind provider_prefix
+    if is_provider_type kind
     then drop (length provider_prefix) kind
     else before_first is_colon kind
 
