@@ -92,14 +92,16 @@ same_record : (one two : Entry)
     → one.aliases ≡ two.aliases
     → one.import_id ≡ two.import_id
     → one.retain_on_delete ≡ two.retain_on_delete
+    → one.deleted_with ≡ two.deleted_with
+    → one.pending_replacement ≡ two.pending_replacement
     → one.rest ≡ two.rest
     → one ≡ two
-same_record one two e0 e1 e2 e3 e4 e5 e6 e7 e8 e9 e10 e11 e12 e13 e14 e15 e16 e17 e18 =
-    let same : made one.urn one.custom one.kind one.id one.inputs one.outputs one.parent one.provider one.dependencies one.property_dependencies one.doomed one.protect one.external one.init_errors one.additional_secret_outputs one.aliases one.import_id one.retain_on_delete one.rest
-    ≡ made two.urn two.custom two.kind two.id two.inputs two.outputs two.parent two.provider two.dependencies two.property_dependencies two.doomed two.protect two.external two.init_errors two.additional_secret_outputs two.aliases two.import_id two.retain_on_delete two.rest = cc in same
+same_record one two e0 e1 e2 e3 e4 e5 e6 e7 e8 e9 e10 e11 e12 e13 e14 e15 e16 e17 e18 e19 e20 =
+    let same : made one.urn one.custom one.kind one.id one.inputs one.outputs one.parent one.provider one.dependencies one.property_dependencies one.doomed one.protect one.external one.init_errors one.additional_secret_outputs one.aliases one.import_id one.retain_on_delete one.deleted_with one.pending_replacement one.rest
+    ≡ made two.urn two.custom two.kind two.id two.inputs two.outputs two.parent two.provider two.dependencies two.property_dependencies two.doomed two.protect two.external two.init_errors two.additional_secret_outputs two.aliases two.import_id two.retain_on_delete two.deleted_with two.pending_replacement two.rest = cc in same
   where
-    made : Key → Bool → Key → Option Key → List (Key × Value) → List (Key × Value) → Option Key → Option ProviderRef → List Key → List (Key × List Key) → Bool → Bool → Bool → List Key → List Key → List Key → Option Key → Bool → Key → Entry
-    made urn custom kind id inputs outputs parent provider dependencies property_dependencies doomed protect external init_errors additional_secret_outputs aliases import_id retain_on_delete rest = record { urn = urn; custom = custom; kind = kind; id = id; inputs = inputs; outputs = outputs; parent = parent; provider = provider; dependencies = dependencies; property_dependencies = property_dependencies; doomed = doomed; protect = protect; external = external; init_errors = init_errors; additional_secret_outputs = additional_secret_outputs; aliases = aliases; import_id = import_id; retain_on_delete = retain_on_delete; rest = rest }
+    made : Key → Bool → Key → Option Key → List (Key × Value) → List (Key × Value) → Option Key → Option ProviderRef → List Key → List (Key × List Key) → Bool → Bool → Bool → List Key → List Key → List Key → Option Key → Bool → Option Key → Bool → Key → Entry
+    made urn custom kind id inputs outputs parent provider dependencies property_dependencies doomed protect external init_errors additional_secret_outputs aliases import_id retain_on_delete deleted_with pending_replacement rest = record { urn = urn; custom = custom; kind = kind; id = id; inputs = inputs; outputs = outputs; parent = parent; provider = provider; dependencies = dependencies; property_dependencies = property_dependencies; doomed = doomed; protect = protect; external = external; init_errors = init_errors; additional_secret_outputs = additional_secret_outputs; aliases = aliases; import_id = import_id; retain_on_delete = retain_on_delete; deleted_with = deleted_with; pending_replacement = pending_replacement; rest = rest }
 
 same_entry : (one two : Entry) → IsFormedEntry one → IsFormedEntry two → HasValues one → HasValues two → entry_data one ≡ entry_data two → one ≡ two
 unfolding entry_fields
@@ -110,6 +112,7 @@ same_entry one two formed formed' valued valued' same =
     let aliases = same_texts one.aliases two.aliases (bare _ _ (at (codes "aliases") refl)) in
     let custom : one.custom ≡ two.custom = let c = at (codes "custom") refl in cc in
     let doomed = same_flag one.doomed two.doomed (bare _ _ (at (codes "delete") refl)) in
+    let deleted_with = same_text one.deleted_with two.deleted_with (bare _ _ (at (codes "deletedWith") refl)) in
     let dependencies = same_texts one.dependencies two.dependencies (bare _ _ (at (codes "dependencies") refl)) in
     let external = same_flag one.external two.external (bare _ _ (at (codes "external") refl)) in
     let id = same_text one.id two.id (bare _ _ (at (codes "id") refl)) in
@@ -118,6 +121,7 @@ same_entry one two formed formed' valued valued' same =
     let inputs = same_values one.inputs two.inputs valued.inputs valued'.inputs valued.whole_inputs valued'.whole_inputs (bare _ _ (at (codes "inputs") refl)) in
     let outputs = same_values one.outputs two.outputs valued.outputs valued'.outputs valued.whole_outputs valued'.whole_outputs (bare _ _ (at (codes "outputs") refl)) in
     let parent = same_text one.parent two.parent (bare _ _ (at (codes "parent") refl)) in
+    let pending_replacement = same_flag one.pending_replacement two.pending_replacement (bare _ _ (at (codes "pendingReplacement") refl)) in
     let properties = same_properties one.property_dependencies two.property_dependencies formed.properties formed'.properties (bare _ _ (at (codes "propertyDependencies") refl)) in
     let protect = same_flag one.protect two.protect (bare _ _ (at (codes "protect") refl)) in
     let provider = same_provider one.provider two.provider formed.provider formed'.provider (bare _ _ (at (codes "provider") refl)) in
@@ -125,7 +129,7 @@ same_entry one two formed formed' valued valued' same =
     let kind : one.kind ≡ two.kind = let k = at (codes "type") refl in cc in
     let urn : one.urn ≡ two.urn = let u = at (codes "urn") refl in cc in
     let rest = same_rest (keys_of (entry_fields one)) one.rest two.rest formed.rest formed'.rest (same_unread one two formed formed' ms) in
-    same_record one two urn custom kind id inputs outputs parent provider dependencies properties doomed protect external init_errors secrets aliases import_id retain rest
+    same_record one two urn custom kind id inputs outputs parent provider dependencies properties doomed protect external init_errors secrets aliases import_id retain deleted_with pending_replacement rest
 
 -- ---- lists of them
 

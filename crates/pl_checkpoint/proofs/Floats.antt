@@ -1,4 +1,4 @@
--- What is written of a state has no float.
+-- What is written of a state's parts has no float.
 use Rattle.std.proofs.Common.{◌≡◌, Bool, true, false, ◌||◌, if◌then◌else◌, List, [], ◌∷◌, map, ℕ, Option, Some, None, Ordering, Less, Equal, Greater, is_some, option_and_then, codes, refl}
 use Rattle.std.proofs.lemmas.Bool.{or_parts}
 use Rattle.std.specs.Cmp.Lexicographic.{slice_cmp}
@@ -8,13 +8,13 @@ use Rattle.pl_json.specs.Spelled.{spelled_fields}
 use Rattle.pl_value.specs.declared.value.Value.{Value}
 use Rattle.pl_state.specs.declared.entry.Entry.{Entry}
 use Rattle.pl_state.specs.declared.pending.Pending.{Pending}
-use Rattle.pl_state.specs.declared.snapshot.Snapshot.{Snapshot}
-use Rattle.serde_json.specs.Data.{Data, string, object, Members, no_members, member, put}
+use Rattle.serde_json.specs.Data.{Data, null, string, object, Members, no_members, member, put}
 use Rattle.serde_json.specs.Find.{as_object, get_member}
 use Rattle.serde_json.specs.Read.{read}
 use Rattle.serde_json.specs.View.{items_of}
 use Rattle.serde_json.specs.Written.{has_float, items_have_float, members_have_float}
-use Rattle.pl_checkpoint.specs.Spelled.{Field, put_if_some, with_fields, flag_data, text_data, unless_empty, texts_data, property_field, properties_data, whole_members, unread_fields, entry_fields, entry_data, entries_data, pending_data, pendings_data, with_manifest, deployment_fields, deployment_data, stack_data, checkpoint_data}
+use Rattle.pl_checkpoint.specs.Spelled.{Field, put_if_some, with_fields, flag_data, text_data, unless_empty, texts_data, property_field, properties_data, whole_members, unread_fields, entry_fields, entry_data, pending_data, with_manifest}
+use Rattle.pl_checkpoint.specs.Pieces.{with_places}
 
 either_whole : (o : Ordering) (a b c : Members) → members_have_float a ≡ false → members_have_float b ≡ false → members_have_float c ≡ false
     → members_have_float (match_ordering o a b c) ≡ false
@@ -109,6 +109,7 @@ entry_fields_whole entry =
     or_from _ _ (texts_whole entry.additional_secret_outputs)
     (or_from _ _ (texts_whole entry.aliases)
     (or_from _ _ (flag_whole entry.doomed)
+    (or_from _ _ (text_whole entry.deleted_with)
     (or_from _ _ (texts_whole entry.dependencies)
     (or_from _ _ (flag_whole entry.external)
     (or_from _ _ (text_whole entry.id)
@@ -117,44 +118,31 @@ entry_fields_whole entry =
     (or_from _ _ (values_whole entry.inputs)
     (or_from _ _ (values_whole entry.outputs)
     (or_from _ _ (text_whole entry.parent)
+    (or_from _ _ (flag_whole entry.pending_replacement)
     (or_from _ _ (properties_whole entry.property_dependencies)
     (or_from _ _ (flag_whole entry.protect)
     (or_from _ _ (text_whole _)
     (or_from _ _ (flag_whole entry.retain_on_delete)
-    refl))))))))))))))
+    refl))))))))))))))))
 
 pub entry_whole : (entry : Entry) → has_float (entry_data entry) ≡ false
 unfolding entry_data
 entry_whole entry = with_fields-whole (entry_fields entry) (unread_fields entry.rest) (entry_fields_whole entry) (unread_whole entry.rest)
 
-entries_items_whole : (entries : List Entry) → items_have_float (items_of (map entry_data entries)) ≡ false
-entries_items_whole [] = refl
-entries_items_whole (entry ∷ more) = or_from _ _ (entry_whole entry) (entries_items_whole more)
-
-pending_whole : (operation : Pending) → has_float (pending_data operation) ≡ false
+pub pending_whole : (operation : Pending) → has_float (pending_data operation) ≡ false
 unfolding pending_data
 pending_whole operation = or_from _ _ (entry_whole operation.entry) refl
-
-pendings_items_whole : (operations : List Pending) → items_have_float (items_of (map pending_data operations)) ≡ false
-pendings_items_whole [] = refl
-pendings_items_whole (operation ∷ more) = or_from _ _ (pending_whole operation) (pendings_items_whole more)
-
-deployment_fields_whole : (state : Snapshot) → fields_have_float (deployment_fields state) ≡ false
-unfolding deployment_fields pendings_data entries_data
-deployment_fields_whole state = or_from _ _ (pendings_items_whole state.pending) (or_from _ _ (entries_items_whole state.entries) refl)
 
 manifest_whole : (b : Bool) (ms : Members) → members_have_float ms ≡ false
     → members_have_float (if b then ms else put (codes "manifest") (object no_members) ms) ≡ false
 manifest_whole true ms all = all
 manifest_whole false ms all = members_have_float-put _ _ ms refl all
 
-deployment_whole : (state : Snapshot) → has_float (deployment_data state) ≡ false
-unfolding deployment_data
-deployment_whole state =
-    with_fields-whole (deployment_fields state) (with_manifest (unread_fields state.rest)) (deployment_fields_whole state)
-    (manifest_whole (is_some (get_member (codes "manifest") (unread_fields state.rest))) (unread_fields state.rest) (unread_whole state.rest))
-
--- the checkpoint has no float
-pub checkpoint_whole : (state : Snapshot) → has_float (checkpoint_data state) ≡ false
-unfolding checkpoint_data stack_data
-checkpoint_whole state = or_from _ _ (or_from _ _ (deployment_whole state) refl) refl
+-- a deployment's members without its lists have no float
+pub with_places-whole : (text : List ℕ) → members_have_float (with_places (unread_fields text)) ≡ false
+with_places-whole text =
+    let ms = with_manifest (unread_fields text) in
+    let whole : members_have_float ms ≡ false =
+    manifest_whole (is_some (get_member (codes "manifest") (unread_fields text))) (unread_fields text) (unread_whole text) in
+    members_have_float-put (codes "resources") null (put (codes "pending_operations") null ms) refl
+    (members_have_float-put (codes "pending_operations") null ms refl whole)

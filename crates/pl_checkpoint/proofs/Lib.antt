@@ -5,3 +5,4 @@ pub mod Parts
 pub mod Reading
 pub mod EntryTells
 pub mod TextTells
+pub mod Joined

@@ -19,7 +19,8 @@ use Rattle.serde_json.specs.Data.{Data, string, Members, no_members, member, put
 use Rattle.serde_json.specs.View.{items_of}
 use Rattle.serde_json.specs.Written.{compact_text}
 use Rattle.pl_checkpoint.specs.Formed.{reads_back}
-use Rattle.pl_checkpoint.specs.Spelled.{with_fields, flag_data, text_data, unless_empty, texts_data, property_field, properties_data, reference_text, kind_word}
+use Rattle.pl_reference.specs.Reference.{reference_text}
+use Rattle.pl_checkpoint.specs.Spelled.{with_fields, flag_data, text_data, unless_empty, texts_data, property_field, properties_data, kind_word}
 
 pub same_flag : (one other : Bool) → flag_data one ≡ flag_data other → one ≡ other
 same_flag true true same = refl

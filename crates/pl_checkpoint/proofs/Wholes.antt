@@ -118,61 +118,7 @@ values_whole fields fit = list_whole fields _ (members_whole fields fit)
 
 entry_fields_whole : (entry : Entry) → HasValues entry → FieldsHaveWholes (entry_fields entry)
 unfolding entry_fields
-entry_fields_whole entry valued = (
-  texts_whole entry.additional_secret_outputs,
-  (
-    texts_whole entry.aliases,
-    (
-      tt,
-      (
-        flag_whole entry.doomed,
-        (
-          texts_whole entry.dependencies,
-          (
-            flag_whole entry.external,
-            (
-              text_whole entry.id,
-              (
-                text_whole entry.import_id,
-                (
-                  texts_whole entry.init_errors,
-                  (
-                    values_whole entry.inputs valued.whole_inputs,
-                    (
-                      values_whole entry.outputs valued.whole_outputs,
-                      (
-                        text_whole entry.parent,
-                        (
-                          properties_whole entry.property_dependencies,
-                          (
-                            flag_whole entry.protect,
-                            (
-                              text_whole _,
-                              (
-                                flag_whole entry.retain_on_delete,
-                                (
-                                  tt,
-                                  (
-                                    tt,
-                                    tt,
-                                  ),
-                                ),
-                              ),
-                            ),
-                          ),
-                        ),
-                      ),
-                    ),
-                  ),
-                ),
-              ),
-            ),
-          ),
-        ),
-      ),
-    ),
-  ),
-)
+entry_fields_whole entry valued = (texts_whole entry.additional_secret_outputs, (texts_whole entry.aliases, (tt, (flag_whole entry.doomed, (text_whole entry.deleted_with, (texts_whole entry.dependencies, (flag_whole entry.external, (text_whole entry.id, (text_whole entry.import_id, (texts_whole entry.init_errors, (values_whole entry.inputs valued.whole_inputs, (values_whole entry.outputs valued.whole_outputs, (text_whole entry.parent, (flag_whole entry.pending_replacement, (properties_whole entry.property_dependencies, (flag_whole entry.protect, (text_whole _, (flag_whole entry.retain_on_delete, (tt, (tt, tt))))))))))))))))))))
 
 entry_whole : (entry : Entry) → IsFormedEntry entry → HasValues entry → HasWholes (entry_data entry)
 unfolding entry_data

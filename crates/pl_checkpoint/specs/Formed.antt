@@ -3,14 +3,14 @@ use Rattle.std.specs.Prelude.{◌≡◌, ◌≢◌, ◌≤◌, ◌^◌, ℕ, pos
 use Rattle.std.specs.List.{list_any}
 use Rattle.pl_value.specs.Inside.{greatest_field_depth}
 use Rattle.pl_value.specs.Keys.{are_rising, keys_of}
-use Rattle.pl_reference.specs.Reference.{reference_in}
+use Rattle.pl_reference.specs.Reference.{reference_in, reference_text}
 use Rattle.pl_state.specs.declared.entry.Entry.{Entry}
 use Rattle.pl_reference.specs.declared.reference.ProviderRef.{ProviderRef}
 use Rattle.pl_state.specs.declared.snapshot.Snapshot.{Snapshot}
 use Rattle.serde_json.specs.Data.{Num, unsigned, negative, float, Data, null, boolean, number, string, array, object, Items, no_items, item, Members, no_members, member, members_depth}
 use Rattle.serde_json.specs.Find.{get_member, as_object}
 use Rattle.serde_json.specs.Written.{compact_text}
-use Rattle.pl_checkpoint.specs.Spelled.{entry_fields, deployment_fields, reference_text, unread_fields}
+use Rattle.pl_checkpoint.specs.Spelled.{entry_fields, deployment_fields, unread_fields}
 
 -- the number of levels that a value may have
 abbrev pub most_levels : ℕ

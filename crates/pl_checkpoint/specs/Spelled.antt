@@ -6,7 +6,7 @@ use Rattle.pl_state.specs.declared.entry.Entry.{Entry}
 use Rattle.pl_state.specs.declared.pending.Pending.{Pending}
 use Rattle.pl_state.specs.declared.pending.PendingKind.{PendingKind}
 use Rattle.pl_state.specs.declared.pending.PendingKind.TheVariants.{Creating, Updating, Deleting, Reading, Importing}
-use Rattle.pl_reference.specs.declared.reference.ProviderRef.{ProviderRef}
+use Rattle.pl_reference.specs.Reference.{reference_text}
 use Rattle.pl_state.specs.declared.snapshot.Snapshot.{Snapshot}
 use Rattle.serde_json.specs.Data.{Data, boolean, number, unsigned, string, array, object, Members, no_members, member, put}
 use Rattle.serde_json.specs.Find.{as_object, get_member}
@@ -58,10 +58,6 @@ property_field pair = (pair.0, Some (texts_data pair.1))
 abbrev pub properties_data : List (List ℕ × List (List ℕ)) → Data
 properties_data pairs = object (with_fields (map property_field pairs) no_members)
 
--- a provider's URN and its id, with two colons between them
-abbrev pub reference_text : ProviderRef → List ℕ
-reference_text reference = reference.urn ++ (codes "::" ++ reference.id)
-
 -- ---- fields that are kept unread
 
 -- the members; none where there are none, and none where a number in them is not whole
@@ -83,6 +79,7 @@ entry_fields entry =
     ∷ (codes "aliases", unless_empty entry.aliases (texts_data entry.aliases))
     ∷ (codes "custom", Some (boolean entry.custom))
     ∷ (codes "delete", flag_data entry.doomed)
+    ∷ (codes "deletedWith", text_data entry.deleted_with)
     ∷ (codes "dependencies", unless_empty entry.dependencies (texts_data entry.dependencies))
     ∷ (codes "external", flag_data entry.external)
     ∷ (codes "id", text_data entry.id)
@@ -91,6 +88,7 @@ entry_fields entry =
     ∷ (codes "inputs", unless_empty entry.inputs (spelled_fields entry.inputs))
     ∷ (codes "outputs", unless_empty entry.outputs (spelled_fields entry.outputs))
     ∷ (codes "parent", text_data entry.parent)
+    ∷ (codes "pendingReplacement", flag_data entry.pending_replacement)
     ∷ (codes "propertyDependencies", unless_empty entry.property_dependencies (properties_data entry.property_dependencies))
     ∷ (codes "protect", flag_data entry.protect)
     ∷ (codes "provider", text_data (option_map reference_text entry.provider))

@@ -1,6 +1,7 @@
 //! The checkpoint of a stack: how its state is spelled, and the bytes that are saved.
 #![tactic(auto)]
 
+mod joining;
 mod laws;
 mod members;
 mod spelling;
@@ -8,5 +9,6 @@ mod spelling;
 mod tests;
 mod unread;
 
+pub use joining::join_text;
 pub use laws::text_tells_state;
-pub use spelling::write;
+pub use spelling::{spell_entry, spell_pending, write};

@@ -15,7 +15,7 @@ use Rattle.pl_cli.specs.Place.{dashed_role, form_after, form_wanted, given_value
 use Rattle.pl_cli.specs.Reading.{fault_place, misplaced_word}
 use Rattle.pl_cli.specs.declared.table.CommandName.TheVariants.{Up}
 use Rattle.pl_cli.specs.declared.table.OptionName.{OptionName}
-use Rattle.pl_cli.specs.declared.table.OptionName.TheVariants.{Stack, Project}
+use Rattle.pl_cli.specs.declared.table.OptionName.TheVariants.{Stack, Project, File}
 use Rattle.pl_cli.specs.declared.table.Form.{Form}
 use Rattle.pl_cli.specs.declared.table.Form.TheVariants.{NoColon}
 use Rattle.pl_cli.specs.declared.table.OptionRow.{OptionRow}
@@ -65,11 +65,11 @@ dash-from_front (suc count) (byte ∷ bytes) rest h = eq-eqb byte 45 (cc)
 dash-from_name : (option : OptionName) (word : List ℕ) → name_part word ≡ option_text option → begins_with_dash word ≡ true
 dash-from_name Stack word h = dash-from_front _ word (codes "-stack") h
 dash-from_name Project word h = dash-from_front _ word (codes "-project") h
+dash-from_name File word h = dash-from_front _ word (codes "-file") h
 
--- the table's row of an option that has to be given
-known : (option : OptionName) → option_named Up (option_text option) ≡ Some (required_once option NoColon)
-known Stack = refl
-known Project = refl
+-- the table says that an option has to be given, with a name that a URN takes
+abbrev IsScoped : OptionName → Type 0
+IsScoped option = option_named Up (option_text option) ≡ Some (required_once option NoColon)
 
 -- a test under which `up` is found passed
 found_up : (test : Bool) → cond test (Some Up) None ≡ Some Up → test ≡ true
@@ -122,25 +122,25 @@ later-than_command words place spells dash =
     ne_eqb place 0 (λ e. false≢true (sym (command-dash (word_at words 0) (command_word (word_at words 0) spells)) ∙ subst (λ (n : ℕ). begins_with_dash (word_at words n) ≡ true) e dash))
 
 -- the word that names an option has the role of that option
-role-option : (option : OptionName) (words : List (List ℕ)) (value : List ℕ) (place : ℕ) → command_named (word_at words 0) ≡ Some Up → IsGivenAt option words value place → role_of Up words place ≡ KnownOption (required_once option NoColon)
+role-option : (option : OptionName) → IsScoped option → (words : List (List ℕ)) (value : List ℕ) (place : ℕ) → command_named (word_at words 0) ≡ Some Up → IsGivenAt option words value place → role_of Up words place ≡ KnownOption (required_once option NoColon)
 unfolding role_of
-role-option option words value place spells given =
+role-option option known words value place spells given =
     let dash = dash-from_name option (word_at words place) given.named in
-    dashed-role _ _ _ _ _ (later-than_command words place spells dash) dash (ap (option_named Up) given.named ∙ known option)
+    dashed-role _ _ _ _ _ (later-than_command words place spells dash) dash (ap (option_named Up) given.named ∙ known)
 
 -- an option without a value of its own waits for one
-wanted-after : (option : OptionName) (word : List ℕ) → name_part word ≡ option_text option → own_value word ≡ None → form_after Up word ≡ Some NoColon
-wanted-after option word named none =
-    let row : option_row Up word ≡ Some (required_once option NoColon) = ap (option_named Up) named ∙ known option in
+wanted-after : (option : OptionName) → IsScoped option → (word : List ℕ) → name_part word ≡ option_text option → own_value word ≡ None → form_after Up word ≡ Some NoColon
+wanted-after option known word named none =
+    let row : option_row Up word ≡ Some (required_once option NoColon) = ap (option_named Up) named ∙ known in
     ap (form_wanted (option_row Up word)) none ∙ ap (λ found. form_wanted found None) row
 
 -- the word behind it is its value, where that does not begin with a dash
-role-value : (option : OptionName) (words : List (List ℕ)) (place : ℕ) → name_part (word_at words place) ≡ option_text option → own_value (word_at words place) ≡ None → begins_with_dash (word_at words (place + 1)) ≡ false → role_of Up words (place + 1) ≡ Value NoColon
+role-value : (option : OptionName) → IsScoped option → (words : List (List ℕ)) (place : ℕ) → name_part (word_at words place) ≡ option_text option → own_value (word_at words place) ≡ None → begins_with_dash (word_at words (place + 1)) ≡ false → role_of Up words (place + 1) ≡ Value NoColon
 unfolding role_of
-role-value option words place named none plain =
+role-value option known words place named none plain =
     let e : place + 1 - 1 ≡ place = omega arith in
     let wanted : form_after Up (word_at words (place + 1 - 1)) ≡ Some NoColon
-    = ap (λ (n : ℕ). form_after Up (word_at words n)) e ∙ wanted-after option (word_at words place) named none in
+    = ap (λ (n : ℕ). form_after Up (word_at words n)) e ∙ wanted-after option known (word_at words place) named none in
     plain-role _ _ _ _ _ (ne_eqb (place + 1) 0 (λ same. omega arith)) plain wanted
 
 -- a word that may stand may do so in its role
@@ -149,34 +149,34 @@ unfolding may_stand
 stands-as words place role h e = sym (ap (λ role. may_stand_as role Up words place) e) ∙ h
 
 -- the value that follows has the form
-fits-following : (option : OptionName) (words host : List (List ℕ)) (place : ℕ) → fault_place Up words host ≡ None → name_part (word_at words place) ≡ option_text option → own_value (word_at words place) ≡ None → value_follows words place ≡ true → fits NoColon (word_at words (place + 1)) ≡ true
-fits-following option words host place faultless named none follows =
+fits-following : (option : OptionName) → IsScoped option → (words host : List (List ℕ)) (place : ℕ) → fault_place Up words host ≡ None → name_part (word_at words place) ≡ option_text option → own_value (word_at words place) ≡ None → value_follows words place ≡ true → fits NoColon (word_at words (place + 1)) ≡ true
+fits-following option known words host place faultless named none follows =
     let parts = and_parts _ _ follows in
     let stood = stands words host (place + 1) faultless (ltb-true _ _ parts.0) in
-    stands-as words (place + 1) (Value NoColon) stood (role-value option words place named none (not-true _ parts.1))
+    stands-as words (place + 1) (Value NoColon) stood (role-value option known words place named none (not-true _ parts.1))
 
 -- the value that stands with the option has the form, whether it is its own or follows
-fits-value : (option : OptionName) (words host : List (List ℕ)) (place : ℕ) (own : Option (List ℕ)) → fault_place Up words host ≡ None → name_part (word_at words place) ≡ option_text option → own_value (word_at words place) ≡ own → has_value (Some NoColon) own (value_follows words place) ≡ true → fits NoColon (unwrap_or own (word_at words (place + 1))) ≡ true
-fits-value option words host place (Some value) faultless named is has = has
-fits-value option words host place None faultless named none has = fits-following option words host place faultless named none has
+fits-value : (option : OptionName) → IsScoped option → (words host : List (List ℕ)) (place : ℕ) (own : Option (List ℕ)) → fault_place Up words host ≡ None → name_part (word_at words place) ≡ option_text option → own_value (word_at words place) ≡ own → has_value (Some NoColon) own (value_follows words place) ≡ true → fits NoColon (unwrap_or own (word_at words (place + 1))) ≡ true
+fits-value option known words host place (Some value) faultless named is has = has
+fits-value option known words host place None faultless named none has = fits-following option known words host place faultless named none has
 
 -- the value that was found with the option has the form
-fits-given : (option : OptionName) (words host : List (List ℕ)) (value : List ℕ) (place : ℕ) → command_named (word_at words 0) ≡ Some Up → fault_place Up words host ≡ None → IsGivenAt option words value place → fits NoColon (value_at words place) ≡ true
-fits-given option words host value place spells faultless given =
+fits-given : (option : OptionName) → IsScoped option → (words host : List (List ℕ)) (value : List ℕ) (place : ℕ) → command_named (word_at words 0) ≡ Some Up → fault_place Up words host ≡ None → IsGivenAt option words value place → fits NoColon (value_at words place) ≡ true
+fits-given option known words host value place spells faultless given =
     let stood = stands words host place faultless given.within in
-    let held = stands-as words place (KnownOption (required_once option NoColon)) stood (role-option option words value place spells given) in
-    fits-value option words host place (own_value (word_at words place)) faultless given.named refl (and_parts _ _ held).1
+    let held = stands-as words place (KnownOption (required_once option NoColon)) stood (role-option option known words value place spells given) in
+    fits-value option known words host place (own_value (word_at words place)) faultless given.named refl (and_parts _ _ held).1
 
 -- a required option's value is a name that a URN takes
-scope : (option : OptionName) (words host : List (List ℕ)) (value : List ℕ) → command_named (word_at words 0) ≡ Some Up → fault_place Up words host ≡ None → given_value option words ≡ Some value → IsScope value
-scope option words host value spells faultless given =
+scope : (option : OptionName) → IsScoped option → (words host : List (List ℕ)) (value : List ℕ) → command_named (word_at words 0) ≡ Some Up → fault_place Up words host ≡ None → given_value option words ≡ Some value → IsScope value
+scope option known words host value spells faultless given =
     let at = given_at option words value given in
-    subst IsScope at.1.is (IsScope-from_fits _ (fits-given option words host value at.0 spells faultless at.1))
+    subst IsScope at.1.is (IsScope-from_fits _ (fits-given option known words host value at.0 spells faultless at.1))
 
 -- the stack of words without a fault
 pub stack_scope : (words host : List (List ℕ)) (value : List ℕ) → command_named (word_at words 0) ≡ Some Up → fault_place Up words host ≡ None → given_value Stack words ≡ Some value → IsScope value
-stack_scope words host value spells faultless given = scope Stack words host value spells faultless given
+stack_scope words host value spells faultless given = scope Stack refl words host value spells faultless given
 
 -- the project of words without a fault
 pub project_scope : (words host : List (List ℕ)) (value : List ℕ) → command_named (word_at words 0) ≡ Some Up → fault_place Up words host ≡ None → given_value Project words ≡ Some value → IsScope value
-project_scope words host value spells faultless given = scope Project words host value spells faultless given
+project_scope words host value spells faultless given = scope Project refl words host value spells faultless given

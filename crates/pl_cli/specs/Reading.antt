@@ -1,11 +1,12 @@
 -- The words of the command line as a whole.
-use Rattle.std.specs.Prelude.{ℕ, List, [], ◌∷◌, Bool, true, false, not, ◌&&◌, ◌||◌, Option, Some, None, length, nat_le, find, if◌then◌else◌}
+use Rattle.std.specs.Prelude.{ℕ, List, [], ◌∷◌, Bool, true, false, not, ◌&&◌, ◌||◌, Option, Some, None, codes, length, nat_le, find, unwrap_or, if◌then◌else◌}
 use Rattle.std.specs.List.{list_all, range_with_len, before_first, after_first}
 use Rattle.std.specs.Option.{option_or}
 use Rattle.pl_cli.specs.Table.{command_named, options_of, forms_of, host_rule_of}
 use Rattle.pl_cli.specs.Word.{is_separator}
-use Rattle.pl_cli.specs.Place.{word_at, is_given, positional_before, may_stand}
+use Rattle.pl_cli.specs.Place.{word_at, given_value, is_given, positional_before, may_stand}
 use Rattle.pl_cli.specs.declared.table.CommandName.{CommandName}
+use Rattle.pl_cli.specs.declared.table.OptionName.TheVariants.{File}
 use Rattle.pl_cli.specs.declared.table.HostRule.{HostRule}
 use Rattle.pl_cli.specs.declared.table.HostRule.TheVariants.{OneOrMore, Nothing}
 
@@ -58,3 +59,20 @@ fault_place_under (Some command) words host = fault_place command words host
 -- the place at which these words are refused, or none where they are a command
 abbrev pub bad_place : List (List ℕ) → Option ℕ
 bad_place words = fault_place_under (command_of words) (engine_words words) (host_words words)
+
+-- the path of the checkpoint where the words give none
+abbrev pub usual_file : List ℕ
+usual_file = codes "checkpoint.json"
+
+-- the path of the checkpoint that the words before the separator give
+abbrev pub file_given : List (List ℕ) → List ℕ
+file_given words = unwrap_or (given_value File words) usual_file
+
+-- the path of the checkpoint, where the words are refused at a place or are a command
+abbrev pub file_under : Option ℕ → List (List ℕ) → List ℕ
+file_under None words = file_given (engine_words words)
+file_under (Some _) words = usual_file
+
+-- the path of the checkpoint that any words ask for: the usual one, unless they are a command that gives one
+abbrev pub file_of : List (List ℕ) → List ℕ
+file_of words = file_under (bad_place words) words

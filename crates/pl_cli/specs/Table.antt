@@ -5,9 +5,9 @@ use Rattle.std.specs.Str.{bytes_eq}
 use Rattle.pl_cli.specs.declared.table.CommandName.{CommandName}
 use Rattle.pl_cli.specs.declared.table.CommandName.TheVariants.{Up}
 use Rattle.pl_cli.specs.declared.table.OptionName.{OptionName}
-use Rattle.pl_cli.specs.declared.table.OptionName.TheVariants.{Stack, Project}
+use Rattle.pl_cli.specs.declared.table.OptionName.TheVariants.{Stack, Project, File}
 use Rattle.pl_cli.specs.declared.table.Form.{Form}
-use Rattle.pl_cli.specs.declared.table.Form.TheVariants.{NoColon}
+use Rattle.pl_cli.specs.declared.table.Form.TheVariants.{NoColon, Word}
 use Rattle.pl_cli.specs.declared.table.HostRule.{HostRule}
 use Rattle.pl_cli.specs.declared.table.HostRule.TheVariants.{OneOrMore}
 use Rattle.pl_cli.specs.declared.table.OptionRow.{OptionRow}
@@ -28,14 +28,19 @@ command_named word = find (λ command. bytes_eq (command_text command) word) com
 abbrev pub option_text : OptionName → List ℕ
 option_text Stack = codes "--stack"
 option_text Project = codes "--project"
+option_text File = codes "--file"
 
 -- an option that has to be given, once, with a value of this form
 abbrev pub required_once : OptionName → Form → OptionRow
 required_once option form = record { option = option; required = true; repeatable = false; value = Some form }
 
+-- an option that may be given, once, with a value of this form
+abbrev pub optional_once : OptionName → Form → OptionRow
+optional_once option form = record { option = option; required = false; repeatable = false; value = Some form }
+
 -- the options that a command knows
 abbrev pub options_of : CommandName → List OptionRow
-options_of Up = required_once Stack NoColon ∷ required_once Project NoColon ∷ []
+options_of Up = required_once Stack NoColon ∷ required_once Project NoColon ∷ optional_once File Word ∷ []
 
 -- the row of the option of this spelling, if the command knows it
 abbrev pub option_named : CommandName → List ℕ → Option OptionRow
@@ -57,3 +62,4 @@ is_empty_word (_ ∷ _) = false
 -- whether a value or a positional word has the form; an empty word has none
 abbrev pub fits : Form → List ℕ → Bool
 fits NoColon word = not (is_empty_word word) && not (list_any (λ byte. byte == 58) word)
+fits Word word = not (is_empty_word word)

@@ -8,6 +8,8 @@ use thiserror::Error;
 pub struct RunWords {
     pub stack: Text,
     pub project: Text,
+    /// The path of the checkpoint's file.
+    pub file: Text,
     /// The words that start the language host.
     pub host: Words,
 }
@@ -19,6 +21,7 @@ impl RunWords {
         Ok(RunWords {
             stack: self.stack.copy()?,
             project: self.project.copy()?,
+            file: self.file.copy()?,
             host: self.host.copy()?,
         })
     }

@@ -7,7 +7,7 @@ mod read;
 mod table;
 
 pub use command::{Command, RunWords, WordFault};
-pub use read::read_words;
+pub use read::{file_of, read_words};
 
 #[cfg(test)]
 mod tests;

@@ -2,7 +2,7 @@ ghost use Rattle.std.specs.Prelude.{◌≡◌, ◌<◌, IfErr, IfOk, IfSome, IsS
 ghost use Rattle.pl_urn.specs.Grammar.{IsScope};
 ghost use Rattle.pl_cli.specs.Word.{is_separator};
 ghost use Rattle.pl_cli.specs.Place.{given_value};
-ghost use Rattle.pl_cli.specs.Reading.{bad_place, command_of, engine_words, fault_place, host_words, host_words_fit, is_complete, misplaced_word, options_given};
+ghost use Rattle.pl_cli.specs.Reading.{bad_place, command_of, engine_words, fault_place, file_given, file_of, host_words, host_words_fit, is_complete, misplaced_word, options_given};
 ghost use Rattle.pl_cli.specs.Command.{IfUp, IsRefusedAt, name_of};
 
 use crate::command::{Command, RunWords, WordFault};
@@ -10,6 +10,9 @@ use crate::place::{given_value, may_stand, positional_before, word_at};
 use crate::table::{CommandName, HostRule, OptionName, command_named};
 use pl_value::{OutOfMemory, Text, Words};
 use std::alloc::Global;
+
+/// The checkpoint's file where the words give none.
+const USUAL_FILE: &str = "checkpoint.json";
 
 /// Reads the words of the command line, without the program's own name. The stack and the project of what it
 /// answers are names that stand in a URN.
@@ -24,6 +27,7 @@ pub fn read_words(alloc: Global, words: &[String]) -> Result<Command, WordFault>
         given_value OptionName.Project (engine_words (map string_bytes words.now)) ≡ Some run.project)) }
     ensures stack_scope { IfOk result (IfUp (λ run. IsScope run.stack)) }
     ensures project_scope { IfOk result (IfUp (λ run. IsScope run.project)) }
+    ensures file { IfOk result (IfUp (λ run. run.file ≡ file_given (engine_words (map string_bytes words.now)))) }
     ensures host { IfOk result (IfUp (λ run. run.host ≡ host_words (map string_bytes words.now))) }
 {
     let (engine, host) = split_words(words);
@@ -35,6 +39,18 @@ pub fn read_words(alloc: Global, words: &[String]) -> Result<Command, WordFault>
     }
     match command {
         CommandName::Up => Ok(Command::Up(run_words(alloc, engine, host)?)),
+    }
+}
+
+/// The path of the checkpoint's file that the words ask for. Where they are no command or give none, it is
+/// `checkpoint.json`.
+pub fn file_of(alloc: Global, words: &[String]) -> Result<Text, OutOfMemory>
+    ensures file { IfOk result (λ file. file ≡ file_of (map string_bytes words.now)) }
+{
+    match read_words(alloc, words) {
+        Ok(Command::Up(run)) => Ok(run.file),
+        Err(WordFault::BadWords(_)) => Text::from_str(alloc, USUAL_FILE),
+        Err(WordFault::OutOfMemory) => Err(OutOfMemory),
     }
 }
 
@@ -113,6 +129,7 @@ fn run_words(alloc: Global, words: &[String], host: &[String]) -> Result<RunWord
     requires project { IsSome (given_value OptionName.Project (map string_bytes words.now)) }
     ensures stack { IfOk result (λ run. given_value OptionName.Stack (map string_bytes words.now) ≡ Some run.stack) }
     ensures project { IfOk result (λ run. given_value OptionName.Project (map string_bytes words.now) ≡ Some run.project) }
+    ensures file { IfOk result (λ run. run.file ≡ file_given (map string_bytes words.now)) }
     ensures host { IfOk result (λ run. run.host ≡ map string_bytes host.now) }
 {
     let stack = given_value(OptionName::Stack, words).unwrap();
@@ -120,8 +137,19 @@ fn run_words(alloc: Global, words: &[String], host: &[String]) -> Result<RunWord
     Ok(RunWords {
         stack: Text::from_str(alloc, stack)?,
         project: Text::from_str(alloc, project)?,
+        file: Text::from_str(alloc, file_given(words))?,
         host: copy_words(alloc, host)?,
     })
+}
+
+/// The path that the words before the separator give, or the usual one.
+fn file_given(words: &[String]) -> &str
+    ensures { result.now ≡ file_given (map string_bytes words.now) }
+{
+    match given_value(OptionName::File, words) {
+        Some(file) => file,
+        None => USUAL_FILE,
+    }
 }
 
 fn copy_words(alloc: Global, words: &[String]) -> Result<Words, OutOfMemory>

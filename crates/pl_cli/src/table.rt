@@ -13,6 +13,7 @@ pub enum CommandName {
 pub enum OptionName {
     Stack,
     Project,
+    File,
 }
 
 /// What a value or a positional word is like. None of them is empty.
@@ -20,6 +21,8 @@ pub enum OptionName {
 pub enum Form {
     /// A part of a URN, which holds no `:`.
     NoColon,
+    /// Any word.
+    Word,
 }
 
 /// Which words of the host a command takes.
@@ -40,7 +43,7 @@ pub struct OptionRow {
 
 const COMMANDS: [CommandName; 1] = [CommandName::Up];
 
-const UP_OPTIONS: [OptionRow; 2] = [
+const UP_OPTIONS: [OptionRow; 3] = [
     OptionRow {
         option: OptionName::Stack,
         required: true,
@@ -52,6 +55,12 @@ const UP_OPTIONS: [OptionRow; 2] = [
         required: true,
         repeatable: false,
         value: Some(Form::NoColon),
+    },
+    OptionRow {
+        option: OptionName::File,
+        required: false,
+        repeatable: false,
+        value: Some(Form::Word),
     },
 ];
 
@@ -107,6 +116,7 @@ impl OptionName {
         match self {
             OptionName::Stack => "--stack",
             OptionName::Project => "--project",
+            OptionName::File => "--file",
         }
     }
 }
@@ -117,6 +127,7 @@ impl Form {
     {
         match self {
             Form::NoColon => !word.is_empty() && !word.as_bytes().contains(&b':'),
+            Form::Word => !word.is_empty(),
         }
     }
 }

@@ -1,12 +1,12 @@
-use crate::{Command, WordFault, read_words};
+use crate::{Command, WordFault, file_of, read_words};
 use pl_value::Words;
 use std::alloc::{AllocError, Global};
 use std::test::Fail;
 
 // A line's words stand between blanks, so that two blanks have an empty word between them; the empty line
-// has no word. Behind it stands what it is read as: the stack, the project and the host's words, or the
-// place at which it is refused.
-const LINES: [(&str, &str); 71] = [
+// has no word. Behind it stands what it is read as: the stack, the project, the file where it is not the
+// usual one, and the host's words, or the place at which it is refused.
+const LINES: [(&str, &str); 79] = [
     ("", "bad 0"),
     ("up --stack", "bad 1"),
     ("up --stack dev -- h", "bad 3"),
@@ -52,8 +52,29 @@ const LINES: [(&str, &str); 71] = [
     ("up --stack dev --project web --project=web -- h", "bad 5"),
     ("up --stack=dev --project=web --stack= -- h", "bad 3"),
     ("up --stack dev --project web --stack", "bad 5"),
+    // The file, which may be missing and holds any byte.
+    ("up --file f --stack dev --project web -- h", "dev web f: h"),
+    (
+        "up --stack=dev --project=web --file=a:b=/c -- h",
+        "dev web a:b=/c: h",
+    ),
+    (
+        "up --stack=dev --project=web --file=-f -- h",
+        "dev web -f: h",
+    ),
+    ("up --stack=dev --project=web --file -f -- h", "bad 3"),
+    ("up --stack=dev --project=web --file= -- h", "bad 3"),
+    ("up --stack=dev --project=web --file  -- h", "bad 4"),
+    ("up --stack=dev --project=web --file -- h", "bad 3"),
+    (
+        "up --file f --stack=dev --project=web --file=g -- h",
+        "bad 5",
+    ),
+    (
+        "up --stack=dev --project=web -- --file f",
+        "dev web: --file f",
+    ),
     // Options that the command doesn't know.
-    ("up --file f --stack dev --project web -- h", "bad 1"),
     ("up --stack dev --parallel=2 --project web -- h", "bad 3"),
     ("up --stack dev --project web -x -- h", "bad 5"),
     ("up --stack dev --project web - -- h", "bad 5"),
@@ -119,7 +140,22 @@ fn shown_command(alloc: Global, command: &Command) -> Result<String, AllocError>
     let host = joined(alloc, &run.host)?;
     let stack = run.stack.as_str();
     let project = run.project.as_str();
-    format!(in alloc; "{stack} {project}:{host}")
+    match run.file.as_str() {
+        "checkpoint.json" => format!(in alloc; "{stack} {project}:{host}"),
+        file => format!(in alloc; "{stack} {project} {file}:{host}"),
+    }
+}
+
+// The file alone has to be the command's, and the usual one where the words are refused.
+fn same_file(alloc: Global, words: &[String], answer: &Result<Command, WordFault>) -> bool {
+    let want = match answer {
+        Ok(Command::Up(run)) => run.file.as_str(),
+        Err(_) => "checkpoint.json",
+    };
+    match file_of(alloc, words) {
+        Ok(file) => file.as_str() == want,
+        Err(_) => false,
+    }
 }
 
 // A command is shown by its copy.
@@ -141,6 +177,10 @@ fn bad_words_places(rt: HostRuntime) -> Result<(), Fail> {
         let answer = read_words(rt.alloc(), words.as_slice());
         let shown = shown(rt.alloc(), &answer)?;
         assert_eq!(rt; shown.as_str(), want, "at {line:?}");
+        assert!(rt;
+            same_file(rt.alloc(), words.as_slice(), &answer),
+            "at {line:?}"
+        );
     }
     Ok(())
 }

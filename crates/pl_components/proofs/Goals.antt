@@ -4,9 +4,9 @@ use Rattle.std.proofs.lemmas.List.{length-map}
 use Rattle.std.proofs.lemmas.Slice.Eq.{bytes_eq-Decides}
 use Rattle.std.specs.Str.{bytes_eq}
 use Rattle.std.specs.List.{starts_with}
-use Rattle.pl_urn.specs.Grammar.{IsScope, IsUrn, child_fault, child_text, provider_prefix, urn_fault}
+use Rattle.pl_urn.specs.Grammar.{IsScope, IsUrn, child_fault, child_text, is_provider_type, provider_prefix, urn_fault}
 use Rattle.pl_urn.proofs.Children.{IsUrn-child, own_type_of-child}
-use Rattle.pl_options.specs.GoalOf.{goal_of, is_provider_type, option_fault, plain_goal_of}
+use Rattle.pl_options.specs.GoalOf.{goal_of, option_fault, plain_goal_of}
 use Rattle.pl_state.specs.Component.{has_none, has_no_flags, has_no_lists, has_no_names, is_plain, plain_goal, plain_registration}
 use Rattle.pl_state.specs.Kinds.{is_of_provider}
 use Rattle.pl_state.specs.declared.goal.Goal.{Goal}
@@ -70,10 +70,11 @@ plain_is told h =
     let protect : told.protect ≡ false = not_true _ (and_right (not told.custom) _ (and_left _ (not told.retain_on_delete) (and_left _ (is_none told.delete_before_replace) flags))) in
     let retain : told.retain_on_delete ≡ false = not_true _ (and_right (not told.custom && not told.protect) _ (and_left _ (is_none told.delete_before_replace) flags)) in
     let first : told.delete_before_replace ≡ None = none_from_test _ (and_right (not told.custom && not told.protect && not told.retain_on_delete) _ flags) in
-    let provider : told.provider ≡ None = none_from_test _ (and_left _ (is_none told.import_id) (and_left _ (is_none told.version) (and_left _ (is_none told.read_id) names))) in
-    let import : told.import_id ≡ None = none_from_test _ (and_right (is_none told.provider) _ (and_left _ (is_none told.version) (and_left _ (is_none told.read_id) names))) in
-    let version : told.version ≡ None = none_from_test _ (and_right (is_none told.provider && is_none told.import_id) _ (and_left _ (is_none told.read_id) names)) in
-    let read : told.read_id ≡ None = none_from_test _ (and_right (is_none told.provider && is_none told.import_id && is_none told.version) _ names) in
+    let provider : told.provider ≡ None = none_from_test _ (and_left _ (is_none told.deleted_with) (and_left _ (is_none told.import_id) (and_left _ (is_none told.version) (and_left _ (is_none told.read_id) names)))) in
+    let deleter : told.deleted_with ≡ None = none_from_test _ (and_right (is_none told.provider) _ (and_left _ (is_none told.import_id) (and_left _ (is_none told.version) (and_left _ (is_none told.read_id) names)))) in
+    let import : told.import_id ≡ None = none_from_test _ (and_right (is_none told.provider && is_none told.deleted_with) _ (and_left _ (is_none told.version) (and_left _ (is_none told.read_id) names))) in
+    let version : told.version ≡ None = none_from_test _ (and_right (is_none told.provider && is_none told.deleted_with && is_none told.import_id) _ (and_left _ (is_none told.read_id) names)) in
+    let read : told.read_id ≡ None = none_from_test _ (and_right (is_none told.provider && is_none told.deleted_with && is_none told.import_id && is_none told.version) _ names) in
     let five = and_left (has_none told.inputs && has_none told.dependencies && has_none told.property_dependencies && has_none told.aliases && has_none told.ignore_changes) (has_none told.additional_secret_outputs) lists in
     let four = and_left (has_none told.inputs && has_none told.dependencies && has_none told.property_dependencies && has_none told.aliases) (has_none told.ignore_changes) five in
     let three = and_left (has_none told.inputs && has_none told.dependencies && has_none told.property_dependencies) (has_none told.aliases) four in
@@ -98,6 +99,7 @@ plain_is told h =
       ignore_changes = ignored i;
       delete_before_replace = first i;
       retain_on_delete = retain i;
+      deleted_with = deleter i;
       additional_secret_outputs = secret i;
       import_id = import i;
       version = version i;

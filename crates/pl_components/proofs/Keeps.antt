@@ -165,7 +165,7 @@ module _ (run : Fixed) (parallel : ℕ) (spelling : Spelling) (past : List Event
       ≡ (not (has_number (recorded_of past) g) && none_or (is_recorded_urn known) parent)
   keeps_plain g urn kind parent other = rw other (all_true (has_number (recorded_of past) g) (none_or (is_recorded_urn known) parent))
     where
-      all_true : (a b : Bool) → (((((not a && (((b && true) && true) && true)) && true) && true) && true)) ≡ (not a && b)
+      all_true : (a b : Bool) → (((((not a && ((b && true) && true)) && true) && true) && true)) ≡ (not a && b)
       all_true true b = refl
       all_true false true = refl
       all_true false false = refl

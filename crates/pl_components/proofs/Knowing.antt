@@ -5,19 +5,15 @@ use Rattle.std.specs.List.{cons_option, list_any}
 use Rattle.pl_urn.specs.Grammar.{IsScope}
 use Rattle.pl_state.specs.declared.fault.OptionFault.{OptionFault}
 use Rattle.pl_state.specs.Component.{plain_goal, plain_registration}
+use Rattle.pl_state.specs.References.{option_list}
 use Rattle.pl_state.specs.declared.goal.Goal.{Goal}
 use Rattle.pl_state.specs.declared.goal.Registration.{Registration}
 use Rattle.pl_events.specs.declared.event.Event.{Event}
-use Rattle.pl_events.specs.declared.event.HostEnd.{HostEnd}
-use Rattle.pl_events.specs.declared.event.HostEnd.TheVariants as ended
-use Rattle.pl_events.specs.declared.event.Stop.{Stop}
-use Rattle.pl_events.specs.declared.event.Stop.TheVariants as stopped
 use Rattle.pl_events.specs.declared.event.Request.{Request}
 use Rattle.pl_events.specs.declared.event.Request.TheVariants.{Register, Outputs, Invoke}
 use Rattle.pl_events.specs.declared.event.What.{What}
 use Rattle.pl_events.specs.declared.event.What.TheVariants.{Told, HostGone, Begun, Answered, Lost, Kept, Dropped, Cleared, Posted, Stopped}
 use Rattle.pl_decide.specs.declared.problem.Problem.{Problem}
-use Rattle.pl_model.specs.Run as model
 use Rattle.pl_model.specs.Claims.{Decided, goal_number, number_where}
 use Rattle.pl_model.specs.Tickets.{Closed, Errand, answers_of, begun_of, closed_by, errand_by}
 use Rattle.pl_model.specs.Known.{Asked, Fate, Known, accepted, halted, known_with, number_of}
@@ -56,7 +52,7 @@ asked_of run (event ∷ past) = asked_after (has_problem past) (goals_of run pas
 -- the problems, each with its position
 abbrev pub placed_of : List Event → List (ℕ × Problem)
 placed_of [] = []
-placed_of (event ∷ past) = placed_of past ++ at_position (length past) (requests.option_list (problem_of_event event.what))
+placed_of (event ∷ past) = placed_of past ++ at_position (length past) (option_list (problem_of_event event.what))
 
 abbrev pub known_as : Fixed → ℕ → List Event → Known
 known_as run parallel past = record {
@@ -84,7 +80,7 @@ pub has_goal-known : (goals : List Goal) (urn : List ℕ) → is_some (goal_numb
 has_goal-known goals urn = has_number_where (λ goal. bytes_eq goal.urn urn) goals
 
 placed_more : (position : ℕ) (trouble : Option Problem) (placed : List (ℕ × Problem)) (b : Bool)
-    → not (length placed == 0) ≡ b → not (length (placed ++ at_position position (requests.option_list trouble)) == 0) ≡ (is_some trouble || b)
+    → not (length placed == 0) ≡ b → not (length (placed ++ at_position position (option_list trouble)) == 0) ≡ (is_some trouble || b)
 placed_more position None placed b h = ap (λ (xs : List (ℕ × Problem)). not (length xs == 0)) (append-nil placed) ∙ h
 placed_more position (Some trouble) placed b h =
     let longer : length (placed ++ (position, trouble) ∷ []) ≡ length placed + 1 = length-append placed ((position, trouble) ∷ []) in
@@ -307,15 +303,15 @@ module _ (run : Fixed) (parallel : ℕ) (past : List Event) (event : Event) wher
   -- the problems that it makes
   problems_made : (spelling : Spelling) → MayHappen run spelling past event.seat event.what
       → ((request : Request) → event.what ≡ Told request → IsTold run parallel past request)
-      → problems_at old new event.what ≡ requests.option_list (problem_of_event event.what)
+      → problems_at old new event.what ≡ option_list (problem_of_event event.what)
   problems_made spelling may told =
       ap (λ (more : List Problem). made_problems old new event.what ++ more) (if_same (ends_well old new event.what) [])
       ∙ append-nil (made_problems old new event.what)
-      ∙ ap (λ (first : Option Problem). requests.option_list first ++ (decision_problems old new ++ (requests.option_list (own_problem old event.what) ++ provider_problems old new))) (problem_told event.what told)
-      ∙ ap (λ (more : List Problem). more ++ (requests.option_list (own_problem old event.what) ++ provider_problems old new)) no_refusals
-      ∙ ap (λ (more : List Problem). requests.option_list (own_problem old event.what) ++ more) no_lacks
-      ∙ append-nil (requests.option_list (own_problem old event.what))
-      ∙ ap (λ (own : Option Problem). requests.option_list own) (own_same old run spelling past event.seat event.what may)
+      ∙ ap (λ (first : Option Problem). option_list first ++ (decision_problems old new ++ (option_list (own_problem old event.what) ++ provider_problems old new))) (problem_told event.what told)
+      ∙ ap (λ (more : List Problem). more ++ (option_list (own_problem old event.what) ++ provider_problems old new)) no_refusals
+      ∙ ap (λ (more : List Problem). option_list (own_problem old event.what) ++ more) no_lacks
+      ∙ append-nil (option_list (own_problem old event.what))
+      ∙ ap (λ (own : Option Problem). option_list own) (own_same old run spelling past event.seat event.what may)
 
   goals_known : (what : What) → ((request : Request) → what ≡ Told request → IsTold run parallel past request)
       → history.goals_after old what ≡ goals_after run what (has_problem past) (goals_of run past)

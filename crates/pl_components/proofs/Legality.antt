@@ -15,7 +15,6 @@ use Rattle.pl_events.specs.declared.event.Stop.{Stop}
 use Rattle.pl_events.specs.declared.event.Stop.TheVariants as stopped
 use Rattle.pl_events.specs.declared.event.What.{What}
 use Rattle.pl_events.specs.declared.event.What.TheVariants.{Told, HostGone, Begun, Answered, Lost, Kept, Dropped, Cleared, Posted, Stopped}
-use Rattle.pl_model.specs.Run as model
 use Rattle.pl_model.specs.Recording.{has_number, recorded_of}
 use Rattle.pl_model.specs.Claims.{goal_number, id_of_row, usable_id}
 use Rattle.pl_model.specs.Known.{Known, asked_at, number_of}
@@ -41,9 +40,10 @@ use Rattle.pl_components.proofs.Goals.{IsFit}
 use Rattle.pl_components.proofs.Knowing.{before_run, known_as, known_is, may_stand-next}
 use Rattle.pl_components.proofs.Recorded.{IsCounted, IsCounted-legal, goal_at-below, goal_at-each, kept_of, numbered-goals, recorded_is}
 use Rattle.pl_components.proofs.States.{entries_kept, entries_known, fit, row_of}
-use Rattle.pl_components.proofs.Waits.{IsWaited-legal, waits_due}
+use Rattle.pl_components.proofs.Waits.{IsWaited-legal}
 use Rattle.pl_components.proofs.Keeps.{AreApart-legal, any_reversed, entry_kept, names_number}
-use Rattle.pl_components.proofs.Works.{answer_known, closed, keep_due, nothing_due, nothing_over, post_known, some_over}
+use Rattle.pl_components.proofs.Lines.{answer_same}
+use Rattle.pl_components.proofs.Works.{closed, keep_due, nothing_due, nothing_over, post_known, some_over}
 
 no_fresh : (found : Option Goal) (b : Bool) → ((goal : Goal) → found ≡ Some goal → is_provider_goal goal ≡ false)
     → false ≡ (some_passes is_provider_goal found && b)
@@ -81,7 +81,7 @@ module _ (run : Fixed) (parallel : ℕ) (spelling : Spelling) (past : List Event
       inr (
         n,
         post_known run parallel spelling past h n ∙ due,
-        ap (λ (answer : Answer). posts.is_too_long spelling n answer) (answer_known run parallel spelling past h n (waits_due run past n due)) ∙ long,
+        ap (λ (answer : Answer). posts.is_too_long spelling n answer) (answer_same run parallel spelling past h n due) ∙ long,
       )
 
   stop_fits : (stop : Stop) → StopFits run spelling past stop → legal_specs.StopFits spelling known stop

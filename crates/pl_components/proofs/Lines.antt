@@ -10,7 +10,6 @@ use Rattle.pl_events.specs.declared.event.Request.{Request}
 use Rattle.pl_events.specs.declared.event.Request.TheVariants.{Register, Outputs, Invoke}
 use Rattle.pl_events.specs.declared.event.What.{What}
 use Rattle.pl_events.specs.declared.event.What.TheVariants.{Told, HostGone, Begun, Answered, Lost, Kept, Dropped, Cleared, Posted, Stopped}
-use Rattle.pl_model.specs.Run as model
 use Rattle.pl_model.specs.Known.{Known}
 use Rattle.pl_model.specs.Due as due
 use Rattle.pl_model.specs.HostLines as lines
@@ -23,7 +22,7 @@ use Rattle.pl_components.specs.Run.{Fixed}
 use Rattle.pl_components.specs.Requests.{goals_of, is_acceptable, last_number, may_be_next}
 use Rattle.pl_components.specs.Due.{answer_of, is_post_due, is_too_long, result_of}
 use Rattle.pl_components.specs.Due as components
-use Rattle.pl_components.specs.HostLines.{EndAdds, HasAnswered, HostGave, HostLines, HostTook, IsNoMessage, IsOneMore, TookAfter, answers_of}
+use Rattle.pl_components.specs.HostLines.{EndAdds, EndFits, EndsFit, HasAnswered, HostGave, HostLines, HostTook, IsNoMessage, IsOneMore, TookAfter, answers_of}
 use Rattle.pl_components.specs.Legal.{MayHappen}
 use Rattle.pl_components.specs.Whole.{IsComponentRun, is_built, is_form_built, whole}
 use Rattle.pl_components.proofs.Lists.{and_false}
@@ -68,7 +67,26 @@ module _ (run : Fixed) (parallel : ℕ) (spelling : Spelling) (past : List Event
   end_adds silent half (ended.BadFrame bytes) added (inr adds) = inr adds
   end_adds silent half ended.NoMemory added adds = adds
 
-  answer_same : (n : ℕ) → is_post_due run past n ≡ true → posts.answer_of spelling known n ≡ answer_of run spelling past n
+  end_fits : ((body : List ℕ) → spelling.error_in body ≡ None) → (what : What) → EndFits run spelling past what
+      → lines.EndFits spelling is_built known what
+  end_fits silent (HostGone (ended.BadFrame bytes)) (inl (is, none)) = inl (is, no_message silent bytes none)
+  end_fits silent (HostGone (ended.BadFrame bytes)) (inr bad) = inr bad
+  end_fits silent (HostGone ended.Success) fits = tt
+  end_fits silent (HostGone (ended.Error text)) fits = tt
+  end_fits silent (HostGone ended.Ended) fits = tt
+  end_fits silent (HostGone ended.PipeFault) fits = tt
+  end_fits silent (HostGone ended.NoMemory) fits = tt
+  end_fits silent (Told request) fits = tt
+  end_fits silent (Begun ticket lane op) fits = tt
+  end_fits silent (Answered ticket reply) fits = tt
+  end_fits silent (Lost ticket why) fits = tt
+  end_fits silent (Kept goal fresh) fits = tt
+  end_fits silent (Dropped row) fits = tt
+  end_fits silent (Cleared at) fits = tt
+  end_fits silent (Posted n) fits = tt
+  end_fits silent (Stopped stop) fits = tt
+
+  pub answer_same : (n : ℕ) → is_post_due run past n ≡ true → posts.answer_of spelling known n ≡ answer_of run spelling past n
   answer_same n due =
       ap (λ (answer : Answer). posts.shortened spelling known n answer) (answer_known run parallel spelling past h n (waits_due run past n due))
       ∙ ap (λ b. if b && posts.is_too_long spelling n (components.answer_for (result_of run past n)) then unanswered.halted else components.answer_for (result_of run past n))
@@ -115,6 +133,17 @@ took_too run parallel spelling silent half (event ∷ past) h taken took =
     (lines.HostTook (whole run parallel) spelling is_built half past)
     (took_too run parallel spelling silent half past before) taken took
 
+ends_fit : (run : Fixed) (parallel : ℕ) (spelling : Spelling) (silent : (body : List ℕ) → spelling.error_in body ≡ None)
+    → (history : List Event) → IsComponentRun run spelling history → EndsFit run spelling history
+    → lines.EndsFit (whole run parallel) spelling is_built history
+ends_fit run parallel spelling silent [] h fit = tt
+ends_fit run parallel spelling silent (event ∷ past) h (fits, earlier) =
+    let before : IsComponentRun run spelling past = before_run run spelling event past h in (
+      subst (λ (known : Known). lines.EndFits spelling is_built known event.what) (sym (known_is run parallel spelling past before))
+          (end_fits run parallel spelling past before silent event.what fits),
+      ends_fit run parallel spelling silent past before earlier,
+    )
+
 -- ---- what was given
 
 frames_next : (run : Fixed) (parallel : ℕ) (spelling : Spelling) (past : List Event) → IsComponentRun run spelling past → (seat : ℕ) (what : What)
@@ -146,7 +175,7 @@ one_more : (run : Fixed) (parallel : ℕ) (spelling : Spelling) (half : Causes) 
     → (more : List ℕ) → IsOneMore run spelling half history more
     → lines.IsOneMore (whole run parallel) spelling half history more
 one_more run parallel spelling half history h more one =
-    let (later, past, n, is, ready, part) = one.of_due in
+    let (later, past, n, is, ready, unposted, part) = one.of_due in
     let before : IsComponentRun run spelling past = earlier_run run spelling later past (subst (λ (events : List Event). IsComponentRun run spelling events) is h) in
     record {
       cause = one.cause;
@@ -156,6 +185,7 @@ one_more run parallel spelling half history h more one =
         n,
         is,
         ap (λ (known : Known). due.is_post_due known n) (known_is run parallel spelling past before) ∙ post_known run parallel spelling past before n ∙ ready,
+        unposted,
         (part.0, part.1 ∙ sym (frame_same run parallel spelling past before n ready)),
       );
     }
@@ -191,4 +221,5 @@ pub lines_too : (run : Fixed) (parallel : ℕ) (spelling : Spelling) (history : 
 lines_too run parallel spelling history h silent reading writing taken given told = record {
   took = took_if run parallel spelling silent reading history h taken told.took;
   gave = gave_if run parallel spelling writing history h given told.gave;
+  ends_fit = ends_fit run parallel spelling silent history h told.ends_fit;
 }

@@ -12,7 +12,7 @@ use Rattle.pl_events.specs.declared.event.Request.{Request}
 use Rattle.pl_events.specs.declared.event.Request.TheVariants.{Register, Outputs, Invoke}
 use Rattle.pl_events.specs.declared.event.What.{What}
 use Rattle.pl_events.specs.declared.event.What.TheVariants.{Told, HostGone, Begun, Answered, Lost, Kept, Dropped, Cleared, Posted, Stopped}
-use Rattle.pl_model.specs.Claims.{Decided, first_some, numbered}
+use Rattle.pl_model.specs.Claims.{Decided, numbered}
 use Rattle.pl_model.specs.Tickets.{Closed}
 use Rattle.pl_model.specs.Recording.{has_number, kept_by, only_if, recorded_by_reply, recorded_of}
 use Rattle.pl_model.specs.Known.{Known}
@@ -240,22 +240,30 @@ abbrev kept_result : ℕ → What → Option Result
 kept_result g (Kept goal fresh) = only_if (goal == g) (Some bare_result)
 kept_result g _ = None
 
-first_kept : (g : ℕ) (what : What) (kept : List ℕ)
-    → option_or (kept_result g what) (only_if (has_number kept g) (Some bare_result)) ≡ only_if (has_number (kept_after what kept) g) (Some bare_result)
-first_kept g (Told request) kept = refl
-first_kept g (HostGone end) kept = refl
-first_kept g (Begun ticket lane op) kept = refl
-first_kept g (Answered ticket reply) kept = refl
-first_kept g (Lost ticket why) kept = refl
-first_kept g (Kept goal fresh) kept = by (goal == g)
+or_none : (b : Bool) → option_or (only_if b (Some bare_result)) None ≡ only_if b (Some bare_result)
+or_none true = refl
+or_none false = refl
+
+-- what recorded a goal before, or what the event records of it
+kept_next_result : (g : ℕ) (what : What) (kept : List ℕ)
+    → option_or (only_if (has_number kept g) (Some bare_result)) (option_or (kept_result g what) None)
+    ≡ only_if (has_number (kept_after what kept) g) (Some bare_result)
+kept_next_result g (Told request) kept = or_none (has_number kept g)
+kept_next_result g (HostGone end) kept = or_none (has_number kept g)
+kept_next_result g (Begun ticket lane op) kept = or_none (has_number kept g)
+kept_next_result g (Answered ticket reply) kept = or_none (has_number kept g)
+kept_next_result g (Lost ticket why) kept = or_none (has_number kept g)
+kept_next_result g (Kept goal fresh) kept = by (has_number kept g) (goal == g)
   where
-    by : (b : Bool) → option_or (only_if b (Some bare_result)) (only_if (has_number kept g) (Some bare_result)) ≡ only_if (b || has_number kept g) (Some bare_result)
-    by true = refl
-    by false = refl
-first_kept g (Dropped row) kept = refl
-first_kept g (Cleared at) kept = refl
-first_kept g (Posted n) kept = refl
-first_kept g (Stopped stop) kept = refl
+    by : (b c : Bool) → option_or (only_if b (Some bare_result)) (option_or (only_if c (Some bare_result)) None) ≡ only_if (c || b) (Some bare_result)
+    by true true = refl
+    by true false = refl
+    by false true = refl
+    by false false = refl
+kept_next_result g (Dropped row) kept = or_none (has_number kept g)
+kept_next_result g (Cleared at) kept = or_none (has_number kept g)
+kept_next_result g (Posted n) kept = or_none (has_number kept g)
+kept_next_result g (Stopped stop) kept = or_none (has_number kept g)
 
 module _ (run : Fixed) (parallel : ℕ) (past : List Event) where
   abbrev known : Known
@@ -274,37 +282,41 @@ module _ (run : Fixed) (parallel : ℕ) (past : List Event) where
   result_plain g urn kind parent (Posted n) other = refl
   result_plain g urn kind parent (Stopped stop) other = refl
 
-  recording_plain : (g : ℕ) (urn kind : List ℕ) (parent : Option (List ℕ)) → is_of_provider urn ≡ false → (history : List Event)
-      → first_some (λ (event : Event). result_kept known g (plain_goal urn kind parent) plain_decided event.what) history
-      ≡ only_if (has_number (kept_of history) g) (Some bare_result)
-  recording_plain g urn kind parent other [] = refl
-  recording_plain g urn kind parent other (event ∷ earlier) =
-      ap (λ (first : Option Result). option_or first (first_some (λ (one : Event). result_kept known g (plain_goal urn kind parent) plain_decided one.what) earlier))
+  recording_plain : (spelling : Spelling) (g : ℕ) (urn kind : List ℕ) (parent : Option (List ℕ)) → is_of_provider urn ≡ false
+      → (history : List Event) → IsLegal run spelling history
+      → entries.result_from known g (plain_goal urn kind parent) plain_decided history ≡ only_if (has_number (kept_of history) g) (Some bare_result)
+  recording_plain spelling g urn kind parent other [] legal = refl
+  recording_plain spelling g urn kind parent other (event ∷ earlier) legal =
+      ap (λ (before : Option Result). option_or before (entries.result_by known g (plain_goal urn kind parent) plain_decided earlier event.what))
+      (recording_plain spelling g urn kind parent other earlier legal.0)
+      ∙ ap (λ (closed : Option Closed). option_or (only_if (has_number (kept_of earlier) g) (Some bare_result))
+      (option_or (result_kept known g (plain_goal urn kind parent) plain_decided event.what) (option_and_then (entries.result_answered known g plain_decided) closed)))
+      (no_reply run spelling earlier event.seat event.what legal.1)
+      ∙ ap (λ (own : Option Result). option_or (only_if (has_number (kept_of earlier) g) (Some bare_result)) (option_or own None))
       (result_plain g urn kind parent event.what other)
-      ∙ ap (λ (later : Option Result). option_or (kept_result g event.what) later) (recording_plain g urn kind parent other earlier)
-      ∙ first_kept g event.what (kept_of earlier)
+      ∙ kept_next_result g event.what (kept_of earlier)
 
-  entry_plain : (g : ℕ) (urn kind : List ℕ) (parent : Option (List ℕ)) → is_of_provider urn ≡ false
+  entry_plain : (spelling : Spelling) → IsLegal run spelling past → (g : ℕ) (urn kind : List ℕ) (parent : Option (List ℕ)) → is_of_provider urn ≡ false
       → option_map (goal_entry known (plain_goal urn kind parent) plain_decided) (entries.recording_of known g (plain_goal urn kind parent) plain_decided)
       ≡ only_if (has_number (kept_of past) g) (Some (entry_of (plain_goal urn kind parent)))
-  entry_plain g urn kind parent other = rw (recording_plain g urn kind parent other past) (by (has_number (kept_of past) g))
+  entry_plain spelling legal g urn kind parent other = rw (recording_plain spelling g urn kind parent other past legal) (by (has_number (kept_of past) g))
     where
-      by : (b : Bool) → option_map (goal_entry known (plain_goal urn kind parent) plain_decided) (option_or (only_if b (Some bare_result)) None)
+      by : (b : Bool) → option_map (goal_entry known (plain_goal urn kind parent) plain_decided) (only_if b (Some bare_result))
           ≡ only_if b (Some (entry_of (plain_goal urn kind parent)))
       by true = refl
       by false = refl
 
-  entry_fit : (g : ℕ) (goal : Goal) → IsFit goal
+  entry_fit : (spelling : Spelling) → IsLegal run spelling past → (g : ℕ) (goal : Goal) → IsFit goal
       → option_map (goal_entry known goal plain_decided) (entries.recording_of known g goal plain_decided)
       ≡ only_if (has_number (kept_of past) g) (Some (entry_of goal))
-  entry_fit g goal fit =
+  entry_fit spelling legal g goal fit =
       subst (λ (one : Goal). option_map (goal_entry known one plain_decided) (entries.recording_of known g one plain_decided)
-      ≡ only_if (has_number (kept_of past) g) (Some (entry_of one))) (sym fit.plain) (entry_plain g goal.urn goal.kind goal.parent fit.other)
+      ≡ only_if (has_number (kept_of past) g) (Some (entry_of one))) (sym fit.plain) (entry_plain spelling legal g goal.urn goal.kind goal.parent fit.other)
 
   -- the entry of a goal, if it is recorded
-  pub entry_known : Each IsFit (goals_of run past) → (g : ℕ)
+  pub entry_known : (spelling : Spelling) → IsLegal run spelling past → Each IsFit (goals_of run past) → (g : ℕ)
       → entries.entry_of known g ≡ only_if (has_number (kept_of past) g) (option_map entry_of (goal_at (goals_of run past) g))
-  entry_known fit g = rw (numbered-goals (goals_of run past) g, numbered-decided (goals_of run past) g) (by (goal_at (goals_of run past) g) refl)
+  entry_known spelling legal fit g = rw (numbered-goals (goals_of run past) g, numbered-decided (goals_of run past) g) (by (goal_at (goals_of run past) g) refl)
     where
       none : (b : Bool) → None ≡ only_if b (option_map entry_of None)
       none true = refl
@@ -314,4 +326,4 @@ module _ (run : Fixed) (parallel : ℕ) (past : List Event) where
           → option_and_then (λ (goal : Goal). option_and_then (λ (one : Decided). option_map (goal_entry known goal one) (entries.recording_of known g goal one)) (option_map decided_for found)) found
           ≡ only_if (has_number (kept_of past) g) (option_map entry_of found)
       by None is = none (has_number (kept_of past) g)
-      by (Some goal) is = entry_fit g goal (goal_at-each IsFit (goals_of run past) fit g goal is)
+      by (Some goal) is = entry_fit spelling legal g goal (goal_at-each IsFit (goals_of run past) fit g goal is)

@@ -6,7 +6,6 @@ use Rattle.pl_events.specs.declared.event.Request.{Request}
 use Rattle.pl_events.specs.declared.event.Request.TheVariants.{Register, Outputs, Invoke}
 use Rattle.pl_events.specs.declared.event.What.{What}
 use Rattle.pl_events.specs.declared.event.What.TheVariants.{Told, HostGone, Begun, Answered, Lost, Kept, Dropped, Cleared, Posted, Stopped}
-use Rattle.pl_model.specs.Run as model
 use Rattle.pl_model.specs.Known.{Known, asked_at}
 use Rattle.pl_model.specs.Recording.{has_number, posted_of}
 use Rattle.pl_model.specs.History.{known_of}
@@ -127,7 +126,7 @@ pub story_too : (run : Fixed) (parallel : ℕ) (spelling : Spelling) (history : 
 story_too run parallel spelling history h rose marks texts (inl is) =
     (saves.saves_of (whole run parallel) spelling history marks, inl refl, inl (is ∙ sym (texts_same run parallel spelling history h marks)))
 story_too run parallel spelling history h rose marks texts (inr (text, is, further)) =
-    let (later, past, whole_is, text_is) = further.of_prefix in
+    let (later, past, whole_is, text_is, none_above) = further.of_prefix in
     let before : IsComponentRun run spelling past = earlier_run run spelling later past (subst (λ (events : List Event). IsComponentRun run spelling events) whole_is h) in (
       saves.saves_of (whole run parallel) spelling history marks,
       inl refl,
@@ -140,6 +139,7 @@ story_too run parallel spelling history h rose marks texts (inr (text, is, furth
             of_prefix = (later, whole_is);
             text_at = inl (text_is ∙ ap (λ (now : Snapshot). spelling.state_text now) (sym (states_agree run parallel spelling past before)));
           },
+          none_above,
           is ∙ ap (λ (saved : List (List ℕ)). saved ++ text ∷ []) (sym (texts_same run parallel spelling history h marks)),
         ),
       ),

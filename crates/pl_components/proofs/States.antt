@@ -13,7 +13,6 @@ use Rattle.pl_events.specs.declared.event.Request.{Request}
 use Rattle.pl_events.specs.declared.event.Request.TheVariants.{Register, Outputs, Invoke}
 use Rattle.pl_events.specs.declared.event.What.{What}
 use Rattle.pl_events.specs.declared.event.What.TheVariants.{Told, HostGone, Begun, Answered, Lost, Kept, Dropped, Cleared, Posted, Stopped}
-use Rattle.pl_model.specs.Run as model
 use Rattle.pl_model.specs.Run.{Pairs}
 use Rattle.pl_model.specs.Claims.{first_some}
 use Rattle.pl_model.specs.Recording.{has_number, only_if}
@@ -177,7 +176,7 @@ module _ (run : Fixed) (parallel : ℕ) (spelling : Spelling) (past : List Event
   recorded_row g =
       ap (λ (outputs : Option Pairs). option_map (with_outputs outputs) (entries.entry_of known g)) (no_outputs g (asked_of run past) (tells_none run spelling past h.legal))
       ∙ with_none (entries.entry_of known g)
-      ∙ entry_known run parallel past fit g
+      ∙ entry_known run parallel past spelling h.legal fit g
 
   kept_row : (g : ℕ) → has_number (kept_of past) g ≡ true → recorded_entry known g ≡ row_of (goals_of run past) g
   kept_row g is = recorded_row g ∙ ap (λ b. only_if b (row_of (goals_of run past) g)) is

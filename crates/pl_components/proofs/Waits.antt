@@ -18,7 +18,7 @@ use Rattle.pl_components.specs.Problems.{has_problem}
 use Rattle.pl_components.specs.Requests.{Waiting, goals_of, is_waiting, last_number, made_by, made_for, may_stand, waiting_of}
 use Rattle.pl_components.specs.Due.{is_post_due, result_of}
 use Rattle.pl_components.specs.Legal.{IsLegal, MayHappen}
-use Rattle.pl_components.proofs.Lists.{Each, Each-weaker, and_left, and_right}
+use Rattle.pl_components.proofs.Lists.{Each, Each-weaker, and_left, and_right, not_true}
 use Rattle.pl_components.proofs.Knowing.{asked_as, asked_of, may_stand-next}
 
 -- a request is a registration that was told with these goals
@@ -178,6 +178,14 @@ IsWaited-legal run spelling [] legal = record {
   made = λ n w. refl;
 }
 IsWaited-legal run spelling (event ∷ past) legal = waited_next run spelling past event.seat event.what legal.1 (IsWaited-legal run spelling past legal.0)
+
+-- a request whose post is due was not posted
+pub due_unposted : (run : Fixed) (spelling : Spelling) (past : List Event) → IsLegal run spelling past → (n : ℕ)
+    → is_post_due run past n ≡ true → has_number (posted_of past) n ≡ false
+due_unposted run spelling past legal n due =
+    let waited : IsWaited run past = IsWaited-legal run spelling past legal in
+    not_true (has_number (posted_of past) n)
+    (and_left (not (has_number (posted_of past) n)) (is_some (asked_in (asked_of run past) n)) (sym (waited.told n) ∙ waits_due run past n due))
 
 -- ---- requests that were found
 

@@ -28,7 +28,7 @@ use Rattle.pl_model.specs.Entries as entries
 use Rattle.pl_model.specs.State.{pending_of}
 use Rattle.pl_model.specs.Due.{Work, to_post, to_keep, to_clear, to_drop, to_send, added_by, claim_leaves, count_of, due_work, for_decided, goal_numbers, has_open, is_asked, is_due, is_due_on, is_invoke, is_next_lane, is_over_limit, is_ready, is_lane_of, is_ready_on, is_recorded_about, is_removable, is_settled_request, is_wanted_op, lane_numbers, operations_of, over_limit, pending_numbers, passes_limit, request_numbers, sends_goal, source_of_op, works_of}
 use Rattle.pl_model.specs.Due as due
-use Rattle.pl_model.specs.Rows.{is_left, row_numbers}
+use Rattle.pl_model.specs.Rows.{has_dependents, is_doomed, is_left, is_sent, is_taken_out, is_taken_over, is_target, row_numbers, takes_along, was_removed}
 use Rattle.pl_model.specs.Posts.{answer_for, answer_or, registered}
 use Rattle.pl_model.specs.Run.{Spelling, most_resources}
 use Rattle.pl_components.specs.Run.{Fixed}
@@ -126,7 +126,7 @@ module _ (run : Fixed) (parallel : ℕ) (spelling : Spelling) (past : List Event
   answer_entry (Some goal) = refl
 
   answer_about : (g : ℕ) → answer_or (option_map registered (entries.entry_of known g)) ≡ components.answer_for (recorded_goal (goals_of run past) (unrecorded_of run past) (Some g))
-  answer_about g = rw (entry_known run parallel past fits g, recorded_about g) (by (has_number (kept_of past) g))
+  answer_about g = rw (entry_known run parallel past spelling h.legal fits g, recorded_about g) (by (has_number (kept_of past) g))
     where
       by : (b : Bool) → answer_or (option_map registered (only_if b (option_map entry_of (goal_at (goals_of run past) g)))) ≡ components.answer_for (only_if b (goal_at (goals_of run past) g))
       by true = answer_entry (goal_at (goals_of run past) g)
@@ -246,15 +246,16 @@ module _ (run : Fixed) (parallel : ℕ) (spelling : Spelling) (past : List Event
   no_wanted : (about : Op) → is_wanted_op known about ≡ false
   no_wanted about = rw no_op (and_false _)
 
-  no_lane : (wanted : Source) → due.wants_lane known wanted ≡ false
-  no_lane wanted =
-      ap (λ b. b && is_none (lane_free past wanted) && not (list_any (is_coming past) (lanes_from past wanted)) && nat_lt (length (lanes_from past wanted)) parallel)
-      (list_any-none (λ (about : Op). is_source (source_of_op known about) wanted && is_wanted_op known about)
-      (λ about. ap (λ b. is_source (source_of_op known about) wanted && b) (no_wanted about) ∙ and_false (is_source (source_of_op known about) wanted)) (operations_of known))
-
   none_between : (p q : Bool) → (p && false && q) ≡ false
   none_between true q = refl
   none_between false q = refl
+
+  no_lane : (wanted : Source) → due.wants_lane known wanted ≡ false
+  no_lane wanted =
+      ap (λ b. b && is_none (lane_free past wanted) && not (list_any (is_coming past) (lanes_from past wanted)) && nat_lt (length (lanes_from past wanted)) parallel)
+      (list_any-none (λ (about : Op). is_source (source_of_op known about) wanted && is_wanted_op known about && not (passes_limit known (to_send about)))
+      (λ about. ap (λ b. is_source (source_of_op known about) wanted && b && not (passes_limit known (to_send about))) (no_wanted about)
+      ∙ none_between (is_source (source_of_op known about) wanted) (not (passes_limit known (to_send about)))) (operations_of known))
 
   unwanted : (about : Op) (q : Bool) → (not (known_specs.has_problem known) && is_wanted_op known about && q) ≡ false
   unwanted about q = ap (λ b. not (known_specs.has_problem known) && b && q) (no_wanted about) ∙ none_between (not (known_specs.has_problem known)) q
@@ -290,8 +291,25 @@ module _ (run : Fixed) (parallel : ℕ) (spelling : Spelling) (past : List Event
   no_clear : (at : ℕ) → is_ready known (to_clear at) ≡ false
   no_clear at = and_false (not (known_specs.has_problem known))
 
+  -- there is no row to be taken out
+  no_left : (row : ℕ) → is_left known row ≡ false
+  no_left row =
+      let none : nat_lt row 0 ≡ false = grind (arith, nat_tests) in
+      ap (λ b. b && not (is_taken_out known row) && not (is_taken_over known row)) none
+
+  no_doomed : (row : ℕ) → is_doomed known row ≡ false
+  no_doomed row =
+      ap (λ b. b && not (model.is_refresh known.run.mode) && is_target known row && (known_specs.is_over known || list_any (takes_along known row) known.decided))
+      (no_left row)
+
+  not_removable : (row : ℕ) → is_removable known row ≡ false
+  not_removable row =
+      ap (λ b. b && not (was_removed known row) && not (has_dependents known row) && not (model.is_preview known.run.mode)) (no_doomed row)
+
   no_drop : (row : ℕ) → is_ready known (to_drop row) ≡ false
-  no_drop row = ap (λ b. not (known_specs.has_problem known) && b) (and_false (is_removable known row)) ∙ and_false (not (known_specs.has_problem known))
+  no_drop row =
+      ap (λ b. not (known_specs.has_problem known) && (b && not (is_sent known row))) (not_removable row)
+      ∙ and_false (not (known_specs.has_problem known))
 
   keep_ready : (g : ℕ) → is_ready known (to_keep g) ≡ components.is_ready run past g
   keep_ready g =

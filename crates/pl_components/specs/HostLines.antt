@@ -1,8 +1,8 @@
 -- What was taken from the host's reading half, and what its writing half was given.
-use Rattle.std.specs.Prelude.{◌≡◌, ◌⊎◌, ℕ, ◌<◌, ◌^◌, Bool, true, false, All, Option, Some, None, List, [], ◌∷◌, ◌++◌, IfSome}
+use Rattle.std.specs.Prelude.{⊤, ◌≡◌, ◌⊎◌, ℕ, true, false, All, Option, Some, None, List, [], ◌∷◌, ◌++◌, IfSome}
 use Rattle.pl_world.specs.Counts.{Rose}
 use Rattle.pl_world.specs.Told.{Piece, bytes_of}
-use Rattle.pl_world.specs.Frames.{IsBody, frame_of, length_bytes, IsPartOfFrame, IsStartOfFrame}
+use Rattle.pl_world.specs.Frames.{IsBody, frame_of, IsPartOfFrame, IsStartOfFrame}
 use Rattle.pl_events.specs.declared.event.Event.{Event}
 use Rattle.pl_events.specs.declared.event.Request.{Request}
 use Rattle.pl_events.specs.declared.event.What.{What}
@@ -10,7 +10,8 @@ use Rattle.pl_events.specs.declared.event.What.TheVariants.{Told, HostGone, Post
 use Rattle.pl_events.specs.declared.event.HostEnd.{HostEnd}
 use Rattle.pl_events.specs.declared.event.HostEnd.TheVariants.{Success, Error, Ended, PipeFault, BadFrame, NoMemory}
 use Rattle.pl_model.specs.Run.{Spelling}
-use Rattle.pl_model.specs.Frames.{Causes, IsBadLength}
+use Rattle.pl_model.specs.Frames.{Causes, IsBad, IsBadFrame, IsBadLength}
+use Rattle.pl_model.specs.Recording.{has_number, posted_of}
 use Rattle.pl_components.specs.Run.{Fixed}
 use Rattle.pl_components.specs.Requests.{may_be_next}
 use Rattle.pl_components.specs.Due.{answer_of, is_post_due}
@@ -20,12 +21,6 @@ pub record IsNoMessage (run : Fixed) (spelling : Spelling) (past : List Event) (
   pub no_success : spelling.is_success body ≡ false
   pub no_request : (request : Request) → spelling.request_in body ≡ Some request → may_be_next run past request ≡ false
 
--- the frame of a body that is no message that may stand there, or the four bytes of a bad length
-abbrev pub IsBadFrame : Fixed → Spelling → List Event → List ℕ → List ℕ → Type 0
-IsBadFrame run spelling past bytes added =
-    (IsBody bytes × IsNoMessage run spelling past bytes × (added ≡ frame_of bytes))
-    ⊎ (IsBadLength bytes × (added ≡ bytes))
-
 -- what the host's end adds to the bytes that were taken, and its cause; no message spells an error yet
 abbrev pub EndAdds : Fixed → Spelling → Causes → List Event → HostEnd → List ℕ → Type 0
 EndAdds run spelling half past Success added =
@@ -33,7 +28,7 @@ EndAdds run spelling half past Success added =
 EndAdds run spelling half past (Error text) added = ⊥
 EndAdds run spelling half past Ended added = Rose 0 half.ends × IsPartOfFrame added
 EndAdds run spelling half past PipeFault added = Rose 0 half.faults × IsPartOfFrame added
-EndAdds run spelling half past (BadFrame bytes) added = IsBadFrame run spelling past bytes added
+EndAdds run spelling half past (BadFrame bytes) added = IsBadFrame (IsNoMessage run spelling past) bytes added
 EndAdds run spelling half past NoMemory added = (half.wanted ≡ true) × (IsStartOfFrame added ⊎ IsBadLength added)
 
 -- a body's frame that spells this request
@@ -68,12 +63,12 @@ answers_of run spelling [] = []
 answers_of run spelling (event ∷ past) =
     answers_after run spelling event.what past (answers_of run spelling past)
 
--- a part of one more answer, which was due at a prefix: only where the half's count rose or memory was
+-- a part of one more answer, which was due at a prefix and is not posted: only where the half's count rose or memory was
 -- wanted
 pub record IsOneMore (run : Fixed) (spelling : Spelling) (half : Causes) (history : List Event) (more : List ℕ) : Type 0 where
   pub cause : Rose 0 half.faults ⊎ (half.wanted ≡ true)
   pub of_due : (later past : List Event) × (n : ℕ) × (history ≡ later ++ past)
-      × (is_post_due run past n ≡ true)
+      × (is_post_due run past n ≡ true) × (has_number (posted_of history) n ≡ false)
       × ((rest : List ℕ) × (more ++ rest ≡ frame_of (spelling.answer_text n (answer_of run spelling past n))))
 
 -- the bytes that the writing half was given
@@ -88,8 +83,18 @@ pub record HostGave (run : Fixed) (spelling : Spelling) (half : Causes) (history
   pub uncovered : All (λ piece. piece.1 ≡ None) pieces
   pub answered : HasAnswered run spelling half history (bytes_of pieces)
 
+-- a bad frame that the host's end says of has its cause in the bytes that stand in the history, whatever the pipe tells
+abbrev pub EndFits : Fixed → Spelling → List Event → What → Type 0
+EndFits run spelling past (HostGone (BadFrame bytes)) = IsBad (IsNoMessage run spelling past) bytes
+EndFits run spelling past _ = ⊤
+
+abbrev pub EndsFit : Fixed → Spelling → List Event → Type 0
+EndsFit run spelling [] = ⊤
+EndsFit run spelling (event ∷ past) = EndFits run spelling past event.what × EndsFit run spelling past
+
 -- the lines of both halves, where they are told
 pub record HostLines (run : Fixed) (spelling : Spelling) (reading writing : Causes) (history : List Event)
     (taken : Option (List ℕ)) (given : Option (List Piece)) : Type 0 where
   pub took : IfSome taken (HostTook run spelling reading history)
   pub gave : IfSome given (HostGave run spelling writing history)
+  pub ends_fit : EndsFit run spelling history

@@ -8,12 +8,12 @@ use Rattle.pl_events.specs.declared.event.Request.{Request}
 use Rattle.pl_events.specs.declared.event.Request.TheVariants.{Register}
 use Rattle.pl_events.specs.declared.event.Stop.{Stop}
 use Rattle.pl_events.specs.declared.event.Stop.TheVariants.{StoreFault, StartFault, HostPipeFault, TooManyResources, MessageTooLong, NoMemory}
-use Rattle.pl_options.specs.GoalOf.{is_provider_type}
+use Rattle.pl_urn.specs.Grammar.{is_provider_type}
 use Rattle.pl_model.specs.Run.{Spelling}
 use Rattle.pl_model.specs.Legal.{HasForm}
 use Rattle.pl_components.specs.Run.{Fixed}
 use Rattle.pl_components.specs.Requests.{may_be_next}
-use Rattle.pl_components.specs.Due.{is_post_due, is_keep_due, is_over_limit, is_too_long, result_of, answer_for, NothingDue}
+use Rattle.pl_components.specs.Due.{is_post_due, is_keep_due, is_over_limit, is_too_long, answer_of, NothingDue}
 
 -- whether a request registers a provider
 abbrev pub is_of_provider_type : Request → Bool
@@ -45,7 +45,7 @@ pub record MayBeTooMany (run : Fixed) (past : List Event) : Type 0 where
 -- a post is due whose body a frame can't have
 pub record MayBeTooLong (run : Fixed) (spelling : Spelling) (past : List Event) : Type 0 where
   pub some_post : (n : ℕ) × (is_post_due run past n ≡ true)
-      × (is_too_long spelling n (answer_for (result_of run past n)) ≡ true)
+      × (is_too_long spelling n (answer_of run spelling past n) ≡ true)
 
 -- what a stop tells of the history before it; no provider child is started yet
 abbrev pub StopFits : Fixed → Spelling → List Event → Stop → Type 0

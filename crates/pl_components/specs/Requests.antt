@@ -10,7 +10,7 @@ use Rattle.pl_events.specs.declared.event.Event.{Event}
 use Rattle.pl_events.specs.declared.event.What.{What}
 use Rattle.pl_events.specs.declared.event.What.TheVariants.{Told, Posted}
 use Rattle.pl_events.specs.declared.event.Request.{Request}
-use Rattle.pl_events.specs.declared.event.Request.TheVariants.{Register, Outputs, Invoke}
+use Rattle.pl_events.specs.declared.event.Request.TheVariants.{Register}
 use Rattle.pl_model.specs.Known.{number_of}
 use Rattle.pl_components.specs.Run.{Fixed}
 use Rattle.pl_components.specs.Problems.{has_problem}

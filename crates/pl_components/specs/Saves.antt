@@ -1,5 +1,5 @@
 -- What must be saved, the saves, and the texts by which the store's story grows.
-use Rattle.std.specs.Prelude.{⊤, ◌≡◌, ◌⊎◌, ℕ, ◌+◌, ◌-◌, ◌<◌, ◌==◌, Bool, true, false, if◌then◌else◌, All, AllPairs, Contains, List, [], ◌∷◌, ◌++◌, drop, length, map, Option, Some, None}
+use Rattle.std.specs.Prelude.{⊤, ◌≡◌, ◌⊎◌, ℕ, ◌+◌, ◌-◌, ◌<◌, ◌≤◌, ◌==◌, Bool, true, false, if◌then◌else◌, All, AllPairs, Contains, List, [], ◌∷◌, ◌++◌, drop, length, map, Option, Some, None}
 use Rattle.pl_events.specs.Closing.{has_stop}
 use Rattle.pl_events.specs.declared.event.Event.{Event}
 use Rattle.pl_events.specs.declared.event.What.{What}
@@ -66,15 +66,16 @@ pub record IsSaved (rose : Type 0) (wanted : Bool) (history : List Event) (marks
   pub after_saves : All (λ mark. is_after_save history mark ≡ true) marks
   pub all_marked : AllMarked rose wanted None history marks
 
--- a text more than the saves: that of the state whose replacement failed, which arrived all the same
-pub record IsFurther (run : Fixed) (spelling : Spelling) (rose : Type 0) (history : List Event) (text : List ℕ) : Type 0 where
+-- a text more than the saves: that of the state whose replacement failed, which arrived all the same; no mark is above
+-- its prefix
+pub record IsFurther (run : Fixed) (spelling : Spelling) (rose : Type 0) (history : List Event) (marks text : List ℕ) : Type 0 where
   pub cause : rose
   pub of_prefix : (later past : List Event) × (history ≡ later ++ past)
-      × (text ≡ spelling.state_text (state_of run past))
+      × (text ≡ spelling.state_text (state_of run past)) × All (λ mark. mark ≤ length past) marks
 
 -- the texts by which the story grew: the saves, and at most one further text, the last
 abbrev pub IsStory : Fixed → Spelling → Type 0 → List Event → List ℕ → List (List ℕ) → Type 0
 IsStory run spelling rose history marks texts =
     (texts ≡ saves_of run spelling history marks)
     ⊎ ((text : List ℕ) × (texts ≡ saves_of run spelling history marks ++ text ∷ [])
-    × IsFurther run spelling rose history text)
+    × IsFurther run spelling rose history marks text)

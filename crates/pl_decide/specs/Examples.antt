@@ -46,6 +46,10 @@ thing_kin = thing_row (codes "a")
 abbrev pub external_kin : Entry
 external_kin = record thing_kin { external = true }
 
+-- the same, deleted to be made anew, and protected
+abbrev pub pending_kin : Entry
+pending_kin = record thing_kin { pending_replacement = true; protect = true }
+
 -- the same, protected
 abbrev pub protected_kin : Entry
 protected_kin = record thing_kin { protect = true }

@@ -7,16 +7,16 @@ use Rattle.pl_decide.specs.declared.decision.Decision.{Decision}
 use Rattle.pl_decide.specs.declared.decision.Decision.TheVariants.{Keep, Create, Update, Replace, Import, ReadOnly, Refused}
 use Rattle.pl_decide.specs.declared.limits.Limits.{Limits}
 
--- the name of a decision's step; a creation has another name where a chain took the row of its goal. A
+-- the name of a decision's step; a creation has another name where it replaces what was deleted first. A
 -- refusal has none
 abbrev pub step_name : Bool → Decision → List ℕ
-step_name was_taken Keep = codes "same"
-step_name was_taken Create = if was_taken then codes "create-replacement" else codes "create"
-step_name was_taken Update = codes "update"
-step_name was_taken (Replace first) = codes "create-replacement"
-step_name was_taken Import = codes "import"
-step_name was_taken ReadOnly = codes "read"
-step_name was_taken (Refused problem) = []
+step_name replaces Keep = codes "same"
+step_name replaces Create = if replaces then codes "create-replacement" else codes "create"
+step_name replaces Update = codes "update"
+step_name replaces (Replace first) = codes "create-replacement"
+step_name replaces Import = codes "import"
+step_name replaces ReadOnly = codes "read"
+step_name replaces (Refused problem) = []
 
 -- the name of the step that deletes a row
 abbrev pub delete_step : List ℕ

@@ -1,12 +1,13 @@
 -- What is decided of one goal, by its claim: the first line that fits decides. What the rows that depend on
 -- the claim say to it, and what the limits say, stands elsewhere.
-use Rattle.std.specs.Prelude.{ℕ, Bool, true, false, not, ◌&&◌, ◌||◌, if◌then◌else◌, Option, None, Some, List, [], bytes_eq}
+use Rattle.std.specs.Prelude.{ℕ, Bool, true, false, not, ◌&&◌, ◌||◌, if◌then◌else◌, Option, None, Some, is_some, List, []}
 use Rattle.std.specs.Bool.{beq}
 use Rattle.pl_value.specs.Same.{fields_same}
 use Rattle.pl_value.specs.declared.value.Value.{Value}
 use Rattle.pl_state.specs.Chain.{some_passes}
 use Rattle.pl_state.specs.Component.{has_none}
 use Rattle.pl_state.specs.Kinds.{is_importing_goal, is_provided, is_reading_goal, kin_of}
+use Rattle.pl_state.specs.References.{is_id}
 use Rattle.pl_state.specs.declared.entry.Entry.{Entry}
 use Rattle.pl_state.specs.declared.goal.Changes.{Changes}
 use Rattle.pl_state.specs.declared.goal.Changes.TheVariants.{NoChange, SomeChange, NotKnown}
@@ -18,23 +19,15 @@ use Rattle.pl_decide.specs.declared.decision.ProviderChange.{ProviderChange}
 use Rattle.pl_decide.specs.declared.decision.ProviderChange.TheVariants.{Same, BothDefault, Other}
 use Rattle.pl_decide.specs.declared.problem.Problem.TheVariants.{CustomChanged, ImportConflict, Protected, ReadOverManaged}
 
--- whether there is a claim and it is managed, which is more than read
-abbrev pub is_managed : Option Entry → Bool
-is_managed claim = some_passes (λ row. not row.external) claim
-
 -- whether there is a claim and one of the two is custom alone
 abbrev pub custom_differs : Option Entry → Goal → Bool
 custom_differs claim goal = some_passes (λ row. not (beq row.custom goal.custom)) claim
-
--- whether an id is there and is the one that is named
-abbrev pub is_this_id : Option (List ℕ) → List ℕ → Bool
-is_this_id own id = some_passes (λ text. bytes_eq text id) own
 
 -- whether a goal imports another thing than that of its kin
 abbrev pub is_conflict : Entry → Goal → Bool
 is_conflict kin goal =
     is_importing_goal goal
-    && not (some_passes (λ id. is_this_id kin.id id || is_this_id kin.import_id id) goal.import_id)
+    && not (some_passes (λ id. is_id kin.id id || is_id kin.import_id id) goal.import_id)
 
 -- whether the provider is another one, and one of the two is no default provider
 abbrev pub is_other_provider : ProviderChange → Bool
@@ -99,7 +92,7 @@ decide_kin (Some kin) goal change checked diff = decide_over kin goal change (fi
 
 -- what is decided of a goal that reads
 abbrev pub decide_reading : Option Entry → Goal → Decision
-decide_reading claim goal = if is_managed claim then Refused (ReadOverManaged goal.urn) else ReadOnly
+decide_reading claim goal = if is_some (kin_of claim) then Refused (ReadOverManaged goal.urn) else ReadOnly
 
 -- what is decided of a goal, by its claim, by how its provider stands to the claim's, by its checked inputs
 -- and by the diff, if one was asked

@@ -1,7 +1,7 @@
 ghost use Rattle.std.specs.Prelude.{◌≡◌, [], ◌∷◌, codes, false, None, Some, true};
 ghost use Rattle.pl_state.specs.Chain.{chain_of, provider_row_of, refers_to};
 ghost use Rattle.pl_state.specs.Kinds.{is_of_default, is_of_provider};
-ghost use Rattle.pl_decide.specs.Examples.{a_urn, component_goal, component_kin, external_kin, half_made_kin, importing_goal, no_change, no_limits, not_known, one_input, other_target, protected_kin, provider_goal, reading_goal, replacing_change, small_plan, some_change, stubborn_goal, thing_goal, thing_kin};
+ghost use Rattle.pl_decide.specs.Examples.{a_urn, component_goal, component_kin, external_kin, half_made_kin, importing_goal, no_change, no_limits, not_known, one_input, other_target, pending_kin, protected_kin, provider_goal, reading_goal, replacing_change, small_plan, some_change, stubborn_goal, thing_goal, thing_kin};
 ghost use Rattle.pl_decide.specs.Permits.{permits_chained, permits_left, permits_replaced, permits_step, step_name};
 ghost use Rattle.pl_decide.specs.Rows.{example_rows, provider_urn, stack_urn};
 ghost use Rattle.pl_decide.specs.Table.{decide, needs_diff};
@@ -9,12 +9,14 @@ ghost use Rattle.pl_decide.specs.Table.{decide, needs_diff};
 use crate::decision::{Decision, ProviderChange};
 use crate::problem::Problem;
 
-/// Cases of goals that read or import, and of claims that are only read.
+/// Cases of goals that read or import, and of claims that are only read or are deleted to be made anew.
 pub fn reading_and_importing()
     ensures reads { decide None reading_goal ProviderChange.Same [] None ≡ Decision.ReadOnly }
     ensures managed { decide (Some thing_kin) reading_goal ProviderChange.Same [] None ≡ Decision.Refused (Problem.ReadOverManaged a_urn) }
     ensures external { decide (Some external_kin) reading_goal ProviderChange.Same [] None ≡ Decision.ReadOnly }
     ensures over_external { decide (Some external_kin) thing_goal ProviderChange.Same [] None ≡ Decision.Create }
+    ensures pending { decide (Some pending_kin) reading_goal ProviderChange.Same [] None ≡ Decision.ReadOnly }
+    ensures over_pending { decide (Some pending_kin) thing_goal ProviderChange.Other one_input None ≡ Decision.Create }
     ensures imports { decide None (importing_goal (codes "a")) ProviderChange.Same [] None ≡ Decision.Import }
     ensures other_id { decide (Some thing_kin) (importing_goal (codes "z")) ProviderChange.Same [] None ≡ Decision.Refused (Problem.ImportConflict a_urn) }
     ensures own_id { decide (Some thing_kin) (importing_goal (codes "a")) ProviderChange.Same [] no_change ≡ Decision.Keep }
@@ -29,6 +31,7 @@ pub fn without_diff()
     ensures provider { decide (Some thing_kin) provider_goal ProviderChange.Same one_input None ≡ Decision.Update }
     ensures other_provider { decide (Some thing_kin) thing_goal ProviderChange.Other [] None ≡ Decision.Replace true }
     ensures asks { needs_diff (Some thing_kin) thing_goal ProviderChange.BothDefault ≡ true }
+    ensures asks_over_pending { needs_diff (Some pending_kin) thing_goal ProviderChange.Same ≡ false }
     ensures asks_nothing { needs_diff (Some thing_kin) thing_goal ProviderChange.Other ≡ false }
 {}
 

@@ -2,7 +2,8 @@
 use Rattle.std.proofs.Common.{◌≡◌, ◌⊎◌, ℕ, ◌<◌, ◌≤◌, Bool, true, false, ◌&&◌, List, [], ◌∷◌, ◌++◌, length, Option, Some, None, option_map, Result, Ok, Err, IfOk, IfSome, refl, sym, ◌∙◌, ap, subst, inl, inr, arith, append_assoc, if◌then◌else◌}
 use Rattle.std.proofs.lemmas.Bool.Decides.{nat_tests}
 use Rattle.std.proofs.lemmas.List.Elements.{All-append}
-use Rattle.std.specs.List.{list_all}
+use Rattle.std.specs.List.{cons_option, list_all}
+use Rattle.pl_model.specs.Recording.{has_number, posted_in, posted_of}
 use Rattle.pl_model.specs.Run.{longest_body}
 use Rattle.pl_text.specs.declared.memory.OutOfMemory.{OutOfMemory}
 use Rattle.pl_state.specs.declared.goal.Goal.{Goal}
@@ -74,6 +75,12 @@ answer_of-fits run history n urn result fits =
     (ap (λ (a : Answer). is_too_long host_spelling n a) is ∙ short n (Registered urn None []) fits)
     ∙ is
 
+-- where no problem stands the answer is the result, however long
+pub too_long-free : (run : Fixed) (history : List Event) (n : ℕ) → has_problem history ≡ false
+    → is_too_long host_spelling n (answer_for (result_of run history n)) ≡ true
+    → is_too_long host_spelling n (answer_of run host_spelling history n) ≡ true
+too_long-free run history n free too_long = rw free too_long
+
 pub too_long-result : (run : Fixed) (history : List Event) (n : ℕ) (urn : List ℕ)
     → option_map urn_of (result_of run history n) ≡ Some urn → longest_body < length (answer_text n (Registered urn None []))
     → is_too_long host_spelling n (answer_for (result_of run history n)) ≡ true
@@ -133,6 +140,23 @@ pub answers_of-adds : (run : Fixed) (old new : List Event) → Adds is_unposted 
 answers_of-adds run old new adds =
     ap (λ (history : List Event). answers_of run host_spelling history) adds.1 ∙ answers_of-some run adds.0 old adds.2
 
+posted_of-one : (event : Event) (past : List Event) → is_unposted event.what ≡ true → posted_of (event ∷ past) ≡ posted_of past
+posted_of-one event past un = ap (λ (one : Option ℕ). cons_option one (posted_of past)) (none event.what un)
+  where
+    none : (what : What) → is_unposted what ≡ true → posted_in what ≡ None
+    none (Posted n) un = absurd (cc)
+    none _ un = refl
+
+posted_of-some : (events past : List Event) → list_all (λ event. is_unposted event.what) events ≡ true → posted_of (events ++ past) ≡ posted_of past
+posted_of-some [] past un = refl
+posted_of-some (event ∷ events) past un = posted_of-one event (events ++ past) (grind arith) ∙ posted_of-some events past (grind arith)
+
+-- a request that was not posted is not posted by events that are no posts
+unposted-adds : (n : ℕ) (old new : List Event) → Adds is_unposted old new → has_number (posted_of old) n ≡ false → has_number (posted_of new) n ≡ false
+unposted-adds n old new adds un =
+    ap (λ (history : List Event). has_number (posted_of history) n) adds.1
+    ∙ ap (λ (numbers : List ℕ). has_number numbers n) (posted_of-some adds.0 old adds.2) ∙ un
+
 HostGave-adds : (run : Fixed) (faults faults' : ℕ) (wanted wanted' : Bool) (old new : List Event) (pieces : List Piece)
     → faults ≤ faults' → (wanted ≡ true → wanted' ≡ true) → Adds is_unposted old new
     → HostGave run host_spelling (record { faults = faults; ends = 0; wanted = wanted }) old pieces
@@ -154,7 +178,8 @@ HostGave-adds run faults faults' wanted wanted' old new pieces le want adds h =
               more.2.of_due.2,
               adds.1 ∙ ap (λ (past : List Event). adds.0 ++ past) more.2.of_due.3 ∙ sym (append_assoc adds.0 more.2.of_due.0 more.2.of_due.1),
               more.2.of_due.4,
-              more.2.of_due.5,
+              unposted-adds more.2.of_due.2 old new adds more.2.of_due.5,
+              more.2.of_due.6,
             );
           },
         )
@@ -211,12 +236,12 @@ Written-posted run faults faults' wanted wanted' failed n body history new given
 -- an answer that was given in part, or not written down
 pub Written-failed : (run : Fixed) (faults faults' : ℕ) (wanted wanted' failed : Bool) (n : ℕ) (body more rest : List ℕ) (history new : List Event) (given given' : Option (List Piece))
     → failed ≡ false → Stops history new
-    → body ≡ answer_text n (answer_of run host_spelling history n) → is_post_due run history n ≡ true
+    → body ≡ answer_text n (answer_of run host_spelling history n) → is_post_due run history n ≡ true → has_number (posted_of history) n ≡ false
     → more ++ rest ≡ frame_of body
     → Rose 0 faults' ⊎ (wanted' ≡ true)
     → Gave given given' more None
     → Written run faults wanted failed history given → Written run faults' wanted' true new given'
-Written-failed run faults faults' wanted wanted' failed n body more rest history new given given' unfailed stops answer due parts cause gave h = record {
+Written-failed run faults faults' wanted wanted' failed n body more rest history new given given' unfailed stops answer due un parts cause gave h = record {
   exact = λ e. absurd (cc);
   loose = λ _. given_more run history new given given' more _ gave (h.exact unfailed)
       (λ before pieces was bears. record {
@@ -234,6 +259,7 @@ Written-failed run faults faults' wanted wanted' failed n body more rest history
               n,
               (later stops).1,
               due,
+              unposted stops,
               (rest, parts ∙ ap (λ (b : List ℕ). frame_of b) (answer ∙ sym (answer_text-host n (answer_of run host_spelling history n)))),
             );
           },
@@ -245,6 +271,10 @@ Written-failed run faults faults' wanted wanted' failed n body more rest history
     same : Stops history new → answers_of run host_spelling new ≡ answers_of run host_spelling history
     same (inl is) = ap (λ (past : List Event). answers_of run host_spelling past) is
     same (inr (stop, is)) = ap (λ (past : List Event). answers_of run host_spelling past) is
+
+    unposted : Stops history new → has_number (posted_of new) n ≡ false
+    unposted (inl is) = ap (λ (past : List Event). has_number (posted_of past) n) is ∙ un
+    unposted (inr (stop, is)) = ap (λ (past : List Event). has_number (posted_of past) n) is ∙ un
 
     later : Stops history new → (events : List Event) × (new ≡ events ++ history)
     later (inl is) = ([], is)

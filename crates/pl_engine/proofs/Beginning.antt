@@ -2,6 +2,8 @@
 use Rattle.std.proofs.Common.{◌≡◌, ℕ, ◌-◌, ◌<◌, ◌≤◌, Bool, List, [], ◌∷◌, ◌++◌, length, get_or, slice_get, Option, Some, None, IfSome, MatchOption, Result, Ok, IfOk, refl, sym, ◌∙◌, ap, subst, inl, inr, arith}
 use Rattle.std.proofs.lemmas.Option.{slice_get-get_or}
 use Rattle.pl_events.specs.declared.event.Event.{Event}
+use Rattle.pl_state.specs.Component.{bare_state}
+use Rattle.pl_state.specs.declared.snapshot.Snapshot.{Snapshot}
 use Rattle.pl_cli.specs.declared.command.RunWords.{RunWords}
 use Rattle.pl_cli.specs.Reading.{host_words}
 use Rattle.pl_world.specs.Counts.{Rose}
@@ -14,7 +16,7 @@ use Rattle.pl_cli.specs.declared.command.Command.TheVariants.{Up}
 use Rattle.pl_cli.specs.Command.{IfUp}
 use Rattle.pl_decide.specs.declared.outcome.Outcome.{Outcome}
 use Rattle.pl_decide.specs.declared.outcome.Outcome.TheVariants.{Done, Failed, TooManyResources, BadWords, NotBuilt, BadCheckpoint, PendingOperations, StoreFault, SideFault, StartFault, PipeFault, SinkFault, ChildEnded, BadFrame, OutOfMemory}
-use Rattle.pl_engine.specs.Headline.{IsEarly, IsRunOf, IsUnread, IsUntouched, command_words}
+use Rattle.pl_engine.specs.Headline.{IsEarly, IsRunOf, IsUnread, IsUntouched, command_words, no_state}
 use Rattle.pl_engine.proofs.Saving.{AllMarked-caused}
 use Rattle.pl_engine.proofs.Storing.{Rose-earlier}
 
@@ -86,6 +88,14 @@ started-words (Some _) before now words run theirs is h = (
   theirs,
   h ∙ ap (λ (host : List (List ℕ)). before ++ command_words host run.stack run.project ∷ []) is,
 )
+
+-- the state at the start is that of the words, or nothing where no host was started
+pub base-words : {A : Type 0} (host : Option A) (base : Snapshot) (words : List (List ℕ)) (run : RunWords)
+    → IsRunOf words (record { stack = run.stack; project = run.project })
+    → MatchOption host (base ≡ no_state) (λ _. base ≡ bare_state run.stack [])
+    → MatchOption host (base ≡ no_state) (λ _. (r : Fixed) × IsRunOf words r × (base ≡ bare_state r.stack []))
+base-words None base words run theirs h = h
+base-words (Some _) base words run theirs h = (record { stack = run.stack; project = run.project }, theirs, h)
 
 -- what is said of a run by its names is said of the run of the words
 pub of-words : {A : Type 0} (host : Option A) (words : List (List ℕ)) (run : RunWords) (Says : Fixed → A → Type 0)

@@ -1,8 +1,9 @@
 -- What was taken from the host stands to the history as the definitions say.
-use Rattle.std.proofs.Common.{◌≡◌, ℕ, Bool, true, false, List, [], ◌∷◌, ◌++◌, Option, Some, None, option_and_then, IfSome, refl, sym, ◌∙◌, ap, subst, inl, inr, arith}
+use Rattle.std.proofs.Common.{◌≡◌, ℕ, Bool, true, false, ◌||◌, List, [], ◌∷◌, ◌++◌, Option, Some, None, option_and_then, IfSome, refl, sym, ◌∙◌, ap, subst, inl, inr, arith}
 use Rattle.std.specs.List.{list_all}
 use Rattle.pl_model.specs.Frames.{Causes}
 use Rattle.pl_state.specs.declared.goal.Registration.{Registration}
+use Rattle.pl_events.specs.Closing.{has_host_end, is_host_end}
 use Rattle.pl_events.specs.declared.event.Event.{Event}
 use Rattle.pl_events.specs.declared.event.What.{What}
 use Rattle.pl_events.specs.declared.event.What.TheVariants.{Told, HostGone}
@@ -20,7 +21,7 @@ use Rattle.pl_world.specs.Frames.{IsBody, frame_of}
 use Rattle.pl_components.specs.Run.{Fixed}
 use Rattle.pl_components.specs.Legal.{IsSpelled}
 use Rattle.pl_components.specs.Requests.{may_be_next}
-use Rattle.pl_components.specs.HostLines.{EndAdds, HostTook, IsNoMessage, TookAfter}
+use Rattle.pl_components.specs.HostLines.{EndAdds, EndFits, EndsFit, HostTook, IsNoMessage, TookAfter}
 use Rattle.pl_engine.specs.Spelled.{host_spelling, is_success_word, request_of_word}
 use Rattle.pl_engine.specs.Journal.{end_event}
 use Rattle.pl_engine.specs.Heard.{EndHeard, IfEnded, IfFaulted}
@@ -59,6 +60,37 @@ no_message-refused run past body request is refused = record {
       let same : request ≡ other = cc in
       subst (λ (r : Request). may_be_next run past r ≡ false) same refused;
 }
+
+-- before its host has ended a history says of no bad frame
+fits_going : (run : Fixed) (what : What) (past : List Event) → (has_host_end past ≡ false → EndsFit run host_spelling past)
+    → (is_host_end what || has_host_end past) ≡ false → EndFits run host_spelling past what × EndsFit run host_spelling past
+fits_going run (HostGone _) past h going = absurd (cc)
+fits_going run _ past h going = (tt, h going)
+
+EndsFit-going : (run : Fixed) (history : List Event) → has_host_end history ≡ false → EndsFit run host_spelling history
+EndsFit-going run [] going = tt
+EndsFit-going run (event ∷ past) going = fits_going run event.what past (EndsFit-going run past) going
+
+end_fits : (run : Fixed) (end : HostEnd) (old : List Event) (P : List ℕ → Type 0) → EndHeard end P → EndFits run host_spelling old (HostGone end)
+end_fits run Success old P heard = tt
+end_fits run (Error _) old P heard = tt
+end_fits run Ended old P heard = tt
+end_fits run PipeFault old P heard = tt
+end_fits run (BadFrame bytes) old P (inl (body, unread, took)) = inl (body, no_message-unread run old bytes unread)
+end_fits run (BadFrame bytes) old P (inr (bad, took)) = inr bad
+end_fits run NoMemory old P heard = tt
+
+-- an end that says of a bad frame has its cause in the bytes
+pub EndsFit-end : (run : Fixed) (end : HostEnd) (old new : List Event) → has_host_end old ≡ false → new ≡ end_event end ∷ old
+    → EndFits run host_spelling old (HostGone end) → EndsFit run host_spelling new
+EndsFit-end run end old new going is fits =
+    subst (λ (history : List Event). EndsFit run host_spelling history) (sym is) (fits, EndsFit-going run old going)
+
+-- the end that was heard, or want of memory in its place
+pub EndsFit-ended : (run : Fixed) (end : HostEnd) (old new : List Event) (wanted : Bool) (P : List ℕ → Type 0) → has_host_end old ≡ false
+    → EndHeard end P → EndedBy end old new wanted → EndsFit run host_spelling new
+EndsFit-ended run end old new wanted P going heard (inl (is, _)) = EndsFit-end run end old new going is (end_fits run end old P heard)
+EndsFit-ended run end old new wanted P going heard (inr (is, _)) = EndsFit-end run NoMemory old new going is tt
 
 -- the end and what it adds
 took-end : (run : Fixed) (half : Causes) (old new : List Event) (taken taken' : Option (List ℕ)) (added : List ℕ) (end : HostEnd)
@@ -146,6 +178,16 @@ TakenNow-registered false run body request old new failed taken taken' faults en
     (inl (is_body, no_message-refused run old.history body request word refused, refl))
 TakenNow-registered false run body request old new failed taken taken' faults ends took is_body word grew (over, inr (is, want)) =
     took-end run _ old.history new.history taken taken' (frame_of body) NoMemory is took grew (want, inl (inr (body, is_body, refl)))
+
+-- a request by which the host's messages ended
+pub EndsFit-registered : (result : Bool) (run : Fixed) (body : List ℕ) (request : Request) (old new : Journal) (failed : Bool)
+    → has_host_end old.history ≡ false → IsBody body → word_of body ≡ Some (Asks request)
+    → Registered result request body run old new failed → result ≡ false → EndsFit run host_spelling new.history
+EndsFit-registered true run body request old new failed going is_body word did stops = absurd (cc)
+EndsFit-registered false run body request old new failed going is_body word (over, inl (is, refused)) stops =
+    EndsFit-end run (BadFrame body) old.history new.history going is (inl (is_body, no_message-refused run old.history body request word refused))
+EndsFit-registered false run body request old new failed going is_body word (over, inr (is, want)) stops =
+    EndsFit-end run NoMemory old.history new.history going is tt
 
 -- a registration that was heard is spelled by its body, and is no provider's
 pub spelled-heard : (body : List ℕ) (word : HostWord) (request : Request) (n : ℕ) (told : Registration) → IsBody body

@@ -5,10 +5,9 @@ use Rattle.pl_world.specs.Counts.{Rose}
 use Rattle.pl_world.specs.Told.{Grew, Piece}
 use Rattle.pl_state.specs.declared.snapshot.Snapshot.{Snapshot}
 use Rattle.pl_decide.specs.declared.outcome.Outcome.{Outcome}
-use Rattle.pl_decide.specs.declared.outcome.Outcome.TheVariants.{Done}
 use Rattle.pl_events.specs.declared.event.Event.{Event}
 use Rattle.pl_events.specs.declared.event.What.{What}
-use Rattle.pl_events.specs.declared.event.What.TheVariants.{Told, HostGone, Kept, Posted, Stopped}
+use Rattle.pl_events.specs.declared.event.What.TheVariants.{Stopped}
 use Rattle.pl_events.specs.declared.event.Stop.{Stop}
 use Rattle.pl_events.specs.declared.event.Stop.TheVariants.{StartFault}
 use Rattle.pl_model.specs.Causes.{HasStartCause, has_stop_by, is_start_fault, is_stop_by}
@@ -17,19 +16,22 @@ use Rattle.pl_model.specs.Fulfilment as whole_fulfilment
 use Rattle.pl_model.specs.Saves as whole_saves
 use Rattle.pl_model.specs.State as whole_state
 use Rattle.pl_components.specs.Run.{Fixed}
-use Rattle.pl_components.specs.Entries.{new_entries, state_of}
+use Rattle.pl_components.specs.Entries.{state_of}
 use Rattle.pl_model.specs.Posts.{AllAnswered}
 use Rattle.pl_components.specs.HostLines as parts
 use Rattle.pl_components.specs.Legal.{IsLegal, MayHappen, StopFits}
-use Rattle.pl_components.specs.Problems.{least_outcome}
 use Rattle.pl_components.specs.Requests.{waiting_of}
-use Rattle.pl_components.specs.Saves.{IsSaved, IsStory, saves_of}
+use Rattle.pl_components.specs.Saves.{saves_of}
 use Rattle.pl_components.specs.Whole.{IsComponentRun}
 use Rattle.pl_components.proofs.Legality.{fulfils_too, legal_too, quiet_too}
 use Rattle.pl_components.proofs.Lines.{lines_too}
 use Rattle.pl_components.proofs.Outcomes.{outcomes_agree}
 use Rattle.pl_components.proofs.Saving.{answered_too, saved_too, story_too, texts_same}
 use Rattle.pl_components.proofs.States.{states_agree}
+use Rattle.pl_components.proofs.Knowing.{known_is}
+use Rattle.pl_components.proofs.Works.{closed}
+use Rattle.pl_model.specs.Due.{has_open}
+use Rattle.pl_model.specs.Known.{Known}
 use Rattle.pl_engine.specs.Headline as worked
 use Rattle.pl_engine.specs.Promise as promise
 use Rattle.pl_engine.specs.Spelled.{host_spelling}
@@ -51,7 +53,9 @@ module _ (run : Fixed) (stack : IsScope run.stack) (project : IsScope run.projec
   pub history_too : (faults : ℕ) (wanted : Bool) → worked.IsLegalRun run history faults wanted → promise.IsHistory run history faults wanted
   history_too faults wanted is = record {
     legal = legal_too run 1 host_spelling history component;
+    names = λ _. (stack, project);
     ended = is.ended;
+    closed = ap (λ (known : Known). has_open known) (known_is run 1 host_spelling history component) ∙ closed run 1 host_spelling history component;
     answered = answered faults wanted is.answered;
   }
 

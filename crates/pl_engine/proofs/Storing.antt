@@ -93,6 +93,7 @@ module _ (run : Fixed) (s : Spelling) where
               more.2.of_prefix.1,
               ap (λ (rest : List Event). event ∷ rest) more.2.of_prefix.2,
               more.2.of_prefix.3,
+              more.2.of_prefix.4,
             );
           },
         )
@@ -181,6 +182,10 @@ module _ (run : Fixed) (s : Spelling) where
       → All (λ mark. mark < length past + 1) marks
   marks_below event past marks after = λ k d below. let le = is_after_save-le past _ (after k d below) in omega arith
 
+  marks_within : (event : Event) (past : List Event) (marks : List ℕ) → All (λ mark. is_after_save past mark ≡ true) marks
+      → All (λ mark. mark ≤ length (event ∷ past)) marks
+  marks_within event past marks after = λ k d below. let le = is_after_save-le past _ (after k d below) in omega arith
+
   marked_last : (event : Event) (past : List Event) → must_save event.what ≡ true → is_after_save (event ∷ past) (suc (length past)) ≡ true
   marked_last event past must = grind (arith, nat_tests)
 
@@ -233,7 +238,7 @@ module _ (run : Fixed) (s : Spelling) where
             inr (
               s.state_text (state_of run (event ∷ past)),
               ap (λ (saves : List (List ℕ)). saves ++ s.state_text (state_of run (event ∷ past)) ∷ []) (sym same),
-              record { cause = cause; of_prefix = (stop ∷ [], event ∷ past, refl, refl) },
+              record { cause = cause; of_prefix = (stop ∷ [], event ∷ past, refl, refl, marks_within event past marks h.after_saves) },
             ),
           )
         ];

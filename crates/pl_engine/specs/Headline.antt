@@ -10,6 +10,8 @@ use Rattle.pl_events.specs.declared.event.Event.{Event}
 use Rattle.pl_world.specs.declared.trouble.Trouble.{Trouble}
 use Rattle.pl_world.specs.declared.trouble.Trouble.TheVariants as trouble
 use Rattle.pl_world.specs.Counts.{Rose}
+use Rattle.pl_world.specs.Told.{Piece}
+use Rattle.pl_state.specs.declared.snapshot.Snapshot.{Snapshot}
 use Rattle.pl_components.specs.Run.{Fixed}
 use Rattle.pl_components.specs.Problems.{least_outcome}
 use Rattle.pl_components.specs.Requests.{waiting_of}
@@ -19,6 +21,15 @@ use Rattle.pl_components.specs.Legal.{IsLegal}
 use Rattle.pl_components.specs.Fulfilment.{Fulfils}
 use Rattle.pl_engine.specs.Spelled.{host_spelling}
 use Rattle.pl_engine.specs.Stored.{IsComplete}
+
+-- the state in the record of a call that ended before its run: nothing at all
+abbrev pub no_state : Snapshot
+no_state = record { stack = []; entries = []; pending = []; rest = [] }
+
+-- the host's halves go one way each: nothing was given on the reading half, and nothing taken from the writing half
+pub record IsOneWay (given : Option (List Piece)) (taken : Option (List ℕ)) : Type 0 where
+  pub reading : IfSome given (λ pieces. pieces ≡ [])
+  pub writing : IfSome taken (λ bytes. bytes ≡ [])
 
 -- the status of an outcome
 abbrev pub status_code : Outcome → ℕ

@@ -1,5 +1,5 @@
 -- What the top call promises of a run, over the definitions of a history.
-use Rattle.std.specs.Prelude.{⊤, ◌≡◌, ◌⊎◌, ℕ, Bool, true, false, List, [], ◌∷◌, ◌++◌, Option, None, Some}
+use Rattle.std.specs.Prelude.{◌≡◌, ◌⊎◌, ℕ, Bool, true, false, List, [], ◌∷◌, ◌++◌, Option}
 use Rattle.pl_world.specs.Counts.{Rose}
 use Rattle.pl_world.specs.Told.{Grew, Piece}
 use Rattle.pl_decide.specs.declared.outcome.Outcome.{Outcome}
@@ -7,7 +7,8 @@ use Rattle.pl_decide.specs.declared.outcome.Outcome.TheVariants.{Done}
 use Rattle.pl_events.specs.Closing.{has_host_end}
 use Rattle.pl_events.specs.declared.event.Event.{Event}
 use Rattle.pl_model.specs.Run as model
-use Rattle.pl_model.specs.Due.{IsQuiet}
+use Rattle.pl_model.specs.Run.{HasNames}
+use Rattle.pl_model.specs.Due.{IsQuiet, has_open}
 use Rattle.pl_model.specs.Frames.{Causes}
 use Rattle.pl_model.specs.Fulfilment.{Fulfils}
 use Rattle.pl_model.specs.History.{known_of, problem_of}
@@ -35,11 +36,13 @@ run_as run = whole run 1
 abbrev pub known_as : Fixed → List Event → Known
 known_as run history = known_of (run_as run) history
 
--- the history of a run: it is legal, the host has ended, and every request is answered unless the writing half's count
--- rose or memory was wanted
+-- the history of a run: it is legal, for a stack and a project whose names stand in URNs, the host has ended, no ticket
+-- is open, and every request is answered unless the writing half's count rose or memory was wanted
 pub record IsHistory (run : Fixed) (history : List Event) (faults : ℕ) (wanted : Bool) : Type 0 where
   pub legal : IsLegal (run_as run) host_spelling history
+  pub names : HasNames (run_as run)
   pub ended : has_host_end history ≡ true
+  pub closed : has_open (known_as run history) ≡ false
   pub answered : AllAnswered (known_as run history) ⊎ (Rose 0 faults ⊎ (wanted ≡ true))
 
 -- the marks and the story as a run leaves them

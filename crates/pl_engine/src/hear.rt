@@ -25,6 +25,7 @@ pub fn hear<Q: Pipe>(alloc: Global, reading: &mut Q) -> Result<Heard, HostEnd>
     ensures ended { IfErr result (λ end. EndHeard end (Grew (Q.taken reading.old) (Q.taken reading.new))) }
     ensures faulted { IfErr result (λ end. IfFaulted end (Rose (Q.faults reading.old) (Q.faults reading.new))) }
     ensures at_end { IfErr result (λ end. IfEnded end (Rose (Q.ends reading.old) (Q.ends reading.new))) }
+    ensures given_stays { Q.given reading.new ≡ Q.given reading.old }
     ensures faults_never_fall { Q.faults reading.old ≤ Q.faults reading.new }
     ensures ends_never_fall { Q.ends reading.old ≤ Q.ends reading.new }
 {

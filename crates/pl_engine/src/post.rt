@@ -46,6 +46,7 @@ pub fn post<Q: Pipe>(
     ensures faults_never_fall { Q.faults writing.old.half ≤ Q.faults writing.new.half }
     ensures answers_caused { AnswersCaused journal.old.history journal.new.history (Q.faults writing.old.half) (Q.faults writing.new.half) }
     ensures same_store { SameStoreFaults journal.old.history journal.new.history }
+    ensures taken_stays { Q.taken writing.new.half ≡ Q.taken writing.old.half }
     ensures written { KeepsWritten (run_of journal.old) journal.old journal.new writing.old.failed writing.new.failed
         (Q.faults writing.old.half) (Q.faults writing.new.half) (Q.given writing.old.half) (Q.given writing.new.half) }
 {
@@ -79,6 +80,7 @@ fn give_answer<Q: Pipe>(
     ensures faults_never_fall { Q.faults writing.old.half ≤ Q.faults writing.new.half }
     ensures answers_caused { AnswersCaused journal.old.history journal.new.history (Q.faults writing.old.half) (Q.faults writing.new.half) }
     ensures same_store { SameStoreFaults journal.old.history journal.new.history }
+    ensures taken_stays { Q.taken writing.new.half ≡ Q.taken writing.old.half }
     ensures written { KeepsWritten (run_of journal.old) journal.old journal.new writing.old.failed writing.new.failed
         (Q.faults writing.old.half) (Q.faults writing.new.half) (Q.given writing.old.half) (Q.given writing.new.half) }
 {
@@ -111,14 +113,15 @@ fn give_uncovered<'a, Q: Pipe>(
     ensures given { OnOk result (Gave (Q.given half.old) (Q.given half.new) (frame_of body.now) None) }
     ensures part_given { OnErr result (GavePart (Q.given half.old) (Q.given half.new) (frame_of body.now) None) }
     ensures failed_rose { OnFailed result (Rose (Q.faults half.old) (Q.faults half.new)) }
+    ensures taken_stays { Q.taken half.new ≡ Q.taken half.old }
     ensures faults_never_fall { Q.faults half.old ≤ Q.faults half.new }
 {
     let cover: Option<&'a Q::Cover> = None;
     write_frame(alloc, half, cover, body)
 }
 
-/// The body of the answer; where a result would be too long the run stops and the answer is the halted
-/// one.
+/// The body of the answer; where a result would be too long the run stops, unless a problem stands already, and the
+/// answer is the halted one.
 fn answer_body(
     alloc: Global,
     journal: &mut Journal,
@@ -144,6 +147,9 @@ fn answer_body(
         Ok(body) => Ok(body),
         Err(MsgOut::OutOfMemory) => Err(OutOfMemory),
         Err(MsgOut::TooLong(_)) => {
+            if journal.halted {
+                return halted_bytes(alloc, n);
+            }
             journal.stop(Stop::MessageTooLong);
             halted_bytes(alloc, n)
         }

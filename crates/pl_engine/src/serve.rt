@@ -3,6 +3,7 @@ ghost use Rattle.std.specs.Prelude.{◌≡◌, ◌≤◌, ◌<◌, ◌∷◌, tr
 ghost use Rattle.pl_state.specs.declared.goal.Registration.{Registration};
 ghost use Rattle.pl_components.specs.Requests.{goal_at, goal_for, goals_of, is_registration};
 ghost use Rattle.pl_components.specs.Entries.{entry_if};
+ghost use Rattle.pl_components.specs.HostLines.{EndsFit};
 ghost use Rattle.pl_components.specs.Legal.{IsSpelled};
 ghost use Rattle.pl_engine.specs.Spelled.{host_spelling};
 ghost use Rattle.pl_components.specs.Due.{has_room, is_ready, NothingDue};
@@ -55,6 +56,7 @@ fn halt<Q: Pipe>(
     ensures faults_never_fall { Q.faults writing.old.half ≤ Q.faults writing.new.half }
     ensures answers_caused { AnswersCaused journal.old.history journal.new.history (Q.faults writing.old.half) (Q.faults writing.new.half) }
     ensures same_store { SameStoreFaults journal.old.history journal.new.history }
+    ensures taken_stays { Q.taken writing.new.half ≡ Q.taken writing.old.half }
     ensures written { KeepsWritten (run_of journal.old) journal.old journal.new writing.old.failed writing.new.failed
         (Q.faults writing.old.half) (Q.faults writing.new.half) (Q.given writing.old.half) (Q.given writing.new.half) }
 {
@@ -96,6 +98,7 @@ fn accept<S: Store, Q: Pipe>(
     ensures answers_caused { AnswersCaused journal.old.history journal.new.history (Q.faults writing.old.half) (Q.faults writing.new.half) }
     ensures stored { KeepsStored (run_of journal.old) journal.old journal.new
         (S.faults store.old) (S.faults store.new) (S.story store.old) (S.story store.new) }
+    ensures taken_stays { Q.taken writing.new.half ≡ Q.taken writing.old.half }
     ensures written { KeepsWritten (run_of journal.old) journal.old journal.new writing.old.failed writing.new.failed
         (Q.faults writing.old.half) (Q.faults writing.new.half) (Q.given writing.old.half) (Q.given writing.new.half) }
 {
@@ -209,6 +212,7 @@ fn register<S: Store, Q: Pipe>(
     ensures answers_caused { AnswersCaused journal.old.history journal.new.history (Q.faults writing.old.half) (Q.faults writing.new.half) }
     ensures stored { KeepsStored (run_of journal.old) journal.old journal.new
         (S.faults store.old) (S.faults store.new) (S.story store.old) (S.story store.new) }
+    ensures taken_stays { Q.taken writing.new.half ≡ Q.taken writing.old.half }
     ensures written { KeepsWritten (run_of journal.old) journal.old journal.new writing.old.failed writing.new.failed
         (Q.faults writing.old.half) (Q.faults writing.new.half) (Q.given writing.old.half) (Q.given writing.new.half) }
 {
@@ -265,6 +269,7 @@ fn take_up<S: Store, Q: Pipe>(
     ensures answers_caused { AnswersCaused journal.old.history journal.new.history (Q.faults writing.old.half) (Q.faults writing.new.half) }
     ensures stored { KeepsStored (run_of journal.old) journal.old journal.new
         (S.faults store.old) (S.faults store.new) (S.story store.old) (S.story store.new) }
+    ensures taken_stays { Q.taken writing.new.half ≡ Q.taken writing.old.half }
     ensures written { KeepsWritten (run_of journal.old) journal.old journal.new writing.old.failed writing.new.failed
         (Q.faults writing.old.half) (Q.faults writing.new.half) (Q.given writing.old.half) (Q.given writing.new.half) }
 {
@@ -298,6 +303,9 @@ fn step<S: Store, Q: Pipe>(
     ensures end_caused { result ≡ false → EndCaused (Q.faults reading.new) (Q.ends reading.new) journal.new.history }
     ensures stored { KeepsStored (run_of journal.old) journal.old journal.new
         (S.faults store.old) (S.faults store.new) (S.story store.old) (S.story store.new) }
+    ensures given_stays { Q.given reading.new ≡ Q.given reading.old }
+    ensures taken_stays { Q.taken writing.new.half ≡ Q.taken writing.old.half }
+    ensures ends_fit { result ≡ false → EndsFit (run_of journal.old) host_spelling journal.new.history }
     ensures written { KeepsWritten (run_of journal.old) journal.old journal.new writing.old.failed writing.new.failed
         (Q.faults writing.old.half) (Q.faults writing.new.half) (Q.given writing.old.half) (Q.given writing.new.half) }
 {
@@ -338,6 +346,9 @@ pub fn serve<R: Wait, S: Store, Q: Pipe>(
     ensures end_caused { EndCaused (Q.faults reading.new) (Q.ends reading.new) journal.new.history }
     ensures stored { KeepsStored (run_of journal.old) journal.old journal.new
         (S.faults store.old) (S.faults store.new) (S.story store.old) (S.story store.new) }
+    ensures given_stays { Q.given reading.new ≡ Q.given reading.old }
+    ensures taken_stays { Q.taken writing.new.half ≡ Q.taken writing.old.half }
+    ensures ends_fit { EndsFit (run_of journal.old) host_spelling journal.new.history }
     ensures written { KeepsWritten (run_of journal.old) journal.old journal.new writing.old.failed writing.new.failed
         (Q.faults writing.old.half) (Q.faults writing.new.half) (Q.given writing.old.half) (Q.given writing.new.half) }
 {

@@ -10,7 +10,7 @@ ghost use Rattle.pl_components.specs.Run.{Fixed};
 ghost use Rattle.pl_engine.specs.Spelled.{host_spelling};
 ghost use Rattle.pl_engine.specs.Stored.{IsKeptUp};
 ghost use Rattle.pl_engine.specs.Promise as promise;
-ghost use Rattle.pl_engine.specs.Headline.{IsEarly, IsFinal, IsLegalRun, IsOutcome, IsRefused, IsRunOf, IsUnread, IsUntouched, command_words, start_outcome_of, status_code};
+ghost use Rattle.pl_engine.specs.Headline.{IsEarly, IsFinal, IsLegalRun, IsOneWay, IsOutcome, IsRefused, IsRunOf, IsUnread, IsUntouched, command_words, no_state, start_outcome_of, status_code};
 
 use crate::journal::Journal;
 use crate::post::Writing;
@@ -93,6 +93,7 @@ fn refused<S: Store, B: Drop, P: Spawner, W: Drop, I: Drop, G: Drop>(
     ensures world { result.world ≡ world }
     ensures history { result.run.history.items ≡ [] }
     ensures marks { result.run.marks.items ≡ [] }
+    ensures base { result.run.base ≡ no_state }
     ensures host { result.run.host ≡ None }
 {
     let status = status_of(&outcome);
@@ -159,6 +160,8 @@ fn run_host<R: Wait, S: Store, Q: Pipe>(
         }) (reverse result.run.history.items)) }
     ensures outcome { IsOutcome (record { stack = state.stack; project = project }) (reverse result.run.history.items) result.run.marks.items
         result.run.wanted result.outcome (S.story store.old) (S.story store.new) }
+    ensures base { result.run.base ≡ bare_state state.stack [] }
+    ensures one_way { IfSome result.run.host (λ used. IsOneWay (Q.given used.0) (Q.taken used.1)) }
     ensures host { IsSome result.run.host }
     ensures faults_never_fall { S.faults store.old ≤ S.faults store.new }
 {
@@ -176,6 +179,7 @@ fn run_host<R: Wait, S: Store, Q: Pipe>(
 fn close<Q: Pipe>(alloc: Global, journal: Journal, reading: Q, writing: Writing<Q>) -> Served<Q>
     ensures history { reverse result.run.history.items ≡ journal.history }
     ensures marks { result.run.marks.items ≡ journal.marks.items }
+    ensures base { result.run.base ≡ record journal.state { entries = [] } }
     ensures host { result.run.host ≡ Some (reading, writing.half) }
     ensures wanted { result.run.wanted ≡ journal.wanted }
     ensures outcome { IsFinal journal.outcome journal.wanted result.outcome }
@@ -255,6 +259,12 @@ fn start<R: Wait, S: Store, B: Drop, P: Spawner<Cover = S::Cover>, W: Drop, I: D
         (IsEarly (S.story world.store) (Rose (S.faults world.store) (S.faults result.world.store)) (Rose (P.faults world.spawner) (P.faults result.world.spawner)) result.outcome)
         (λ _. IsOutcome (record { stack = stack; project = project }) (reverse result.run.history.items) result.run.marks.items
         result.run.wanted result.outcome (S.story world.store) (S.story result.world.store)) }
+    ensures base { MatchOption result.run.host (result.run.base ≡ no_state) (λ _. result.run.base ≡ bare_state stack []) }
+    ensures one_way { IfSome result.run.host (λ used. IsOneWay (P.Pipe.given used.0) (P.Pipe.taken used.1)) }
+    ensures side { result.world.side ≡ world.side }
+    ensures sink { result.world.sink ≡ world.sink }
+    ensures ids { result.world.ids ≡ world.ids }
+    ensures gate { result.world.gate ≡ world.gate }
     ensures status { result.status ≡ status_code result.outcome }
 {
     let (Ok(words), Ok(history)) = (
@@ -361,12 +371,19 @@ fn up_by_components<
         (IsEarly (S.story world.store) (Rose (S.faults world.store) (S.faults result.world.store)) (Rose (P.faults world.spawner) (P.faults result.world.spawner)) result.outcome)
         (λ _. IsOutcome (record { stack = run.stack; project = run.project }) (reverse result.run.history.items) result.run.marks.items
         result.run.wanted result.outcome (S.story world.store) (S.story result.world.store)) }
+    ensures base { MatchOption result.run.host (result.run.base ≡ no_state) (λ _. result.run.base ≡ bare_state run.stack []) }
+    ensures one_way { IfSome result.run.host (λ used. IsOneWay (P.Pipe.given used.0) (P.Pipe.taken used.1)) }
+    ensures side { result.world.side ≡ world.side }
+    ensures sink { result.world.sink ≡ world.sink }
+    ensures ids { result.world.ids ≡ world.ids }
+    ensures gate { result.world.gate ≡ world.gate }
     ensures status { result.status ≡ status_code result.outcome }
 {
     let RunWords {
         stack,
         project,
         host,
+        ..
     } = run;
     let World {
         mut store,
@@ -434,6 +451,12 @@ fn up<R: Wait, S: Store, B: Drop, P: Spawner<Cover = S::Cover>, W: Drop, I: Drop
         (IsEarly (S.story world.store) (Rose (S.faults world.store) (S.faults result.world.store)) (Rose (P.faults world.spawner) (P.faults result.world.spawner)) result.outcome)
         (λ _. promise.IsOutcome (record { stack = run.stack; project = run.project }) (reverse result.run.history.items) result.run.marks.items
         result.run.wanted result.outcome (S.story world.store) (S.story result.world.store)) }
+    ensures base { MatchOption result.run.host (result.run.base ≡ no_state) (λ _. result.run.base ≡ bare_state run.stack []) }
+    ensures one_way { IfSome result.run.host (λ used. IsOneWay (P.Pipe.given used.0) (P.Pipe.taken used.1)) }
+    ensures side { result.world.side ≡ world.side }
+    ensures sink { result.world.sink ≡ world.sink }
+    ensures ids { result.world.ids ≡ world.ids }
+    ensures gate { result.world.gate ≡ world.gate }
     ensures status { result.status ≡ status_code result.outcome }
 {
     up_by_components(rt, alloc, run, world)
@@ -513,6 +536,13 @@ pub fn engine<
         (IsRefused (map string_bytes words.now) (S.story world.store) (Rose (S.faults world.store) (S.faults result.world.store)) (Rose (P.faults world.spawner) (P.faults result.world.spawner)) result.outcome)
         (λ _. (run : Fixed) × IsRunOf (map string_bytes words.now) run × (promise.IsOutcome run (reverse result.run.history.items) result.run.marks.items
         result.run.wanted result.outcome (S.story world.store) (S.story result.world.store))) }
+    ensures base { MatchOption result.run.host (result.run.base ≡ no_state) (λ _.
+        (run : Fixed) × IsRunOf (map string_bytes words.now) run × (result.run.base ≡ bare_state run.stack [])) }
+    ensures one_way { IfSome result.run.host (λ used. IsOneWay (P.Pipe.given used.0) (P.Pipe.taken used.1)) }
+    ensures side { result.world.side ≡ world.side }
+    ensures sink { result.world.sink ≡ world.sink }
+    ensures ids { result.world.ids ≡ world.ids }
+    ensures gate { result.world.gate ≡ world.gate }
     ensures status { result.status ≡ status_code result.outcome }
 {
     match read_words(alloc, words) {

@@ -18,6 +18,7 @@ pub struct World<S: Drop, B: Drop, P: Drop, W: Drop, I: Drop, G: Drop> {
 /// What happened in a run: the state that it began with, its one history, and the very pipes that it used.
 #[derive(Drop)]
 pub struct RunRecord<Q: Pipe> {
+    /// The state at the start; without a name and a field where the run ended before the host started.
     pub base: Snapshot,
     /// The events, the oldest first.
     pub history: Vec<Event>,

@@ -44,6 +44,9 @@ struct Script<'a> {
     spawner_fails: &'a [u64],
 }
 
+/// Two components and the word of success.
+const TWO: &[&str] = &[STACK, SITE, DONE];
+
 const UP: &[&str] = &["up", "--stack", "dev", "--project", "web", "--", "h"];
 
 /// A world in which nothing fails.
@@ -154,25 +157,30 @@ fn answers(alloc: Global, ended: &Ended) -> Result<Vec<u8>, AllocError> {
     }
 }
 
-#[test]
-fn empty_program(rt: HostRuntime) -> Result<(), Fail> {
-    let ended = run(&rt, rt.alloc(), &plain(&[DONE]))?;
-    assert!(rt; ended_so(&ended, 0, 0, EMPTY));
-    Ok(())
+/// Runs the script, and says whether it ended so.
+fn ends_so<R: Threads + Wait + Sync>(
+    rt: &R,
+    alloc: Global,
+    script: &Script<'_>,
+    status: u8,
+    saves: usize,
+    last: &str,
+) -> Result<bool, AllocError> {
+    let ended = run(rt, alloc, script)?;
+    Ok(ended_so(&ended, status, saves, last))
 }
 
-#[test]
-fn one_component(rt: HostRuntime) -> Result<(), Fail> {
-    let ended = run(&rt, rt.alloc(), &plain(&[STACK, SITE, DONE]))?;
-    assert!(rt; ended_so(&ended, 0, 2, SECOND));
-    let story = ended.world.store.story();
-    assert_eq!(rt; story.len(), 2);
-    assert!(rt; story[0].as_slice() == FIRST.as_bytes());
-    let given = answers(rt.alloc(), &ended)?;
+/// Whether two components leave both saves and both answers, byte for byte.
+fn leaves_all<R: Threads + Wait + Sync>(rt: &R, alloc: Global) -> Result<bool, AllocError> {
+    let ended = run(rt, alloc, &plain(TWO))?;
+    let first = match ended.world.store.story().first() {
+        Some(bytes) => bytes.as_slice() == FIRST.as_bytes(),
+        None => false,
+    };
+    let given = answers(alloc, &ended)?;
     let want =
         b"\0\0\0\x55{\"n\":1,\"ok\":{\"outputs\":{},\"urn\":\"urn:pulumi:dev::web::pulumi:pulumi:Stack::web-dev\"}}\0\0\0\x49{\"n\":2,\"ok\":{\"outputs\":{},\"urn\":\"urn:pulumi:dev::web::my:index:Site::s\"}}";
-    assert!(rt; given.as_slice() == want.as_slice());
-    Ok(())
+    Ok(first && ended_so(&ended, 0, 2, SECOND) && given.as_slice() == want.as_slice())
 }
 
 /// How many saves stand when the host's bytes end here, and the last content.
@@ -186,98 +194,90 @@ fn saved_by(cut: usize) -> (usize, &'static str) {
     }
 }
 
-#[test]
-fn host_bytes_are_cut_anywhere(rt: HostRuntime) -> Result<(), Fail> {
+/// The first place at which the host's output ends and the run ends otherwise than it should.
+fn bad_cut<R: Threads + Wait + Sync>(rt: &R, alloc: Global) -> Result<Option<usize>, AllocError> {
     for cut in 0..233usize {
-        let mut script = plain(&[STACK, SITE, DONE]);
+        let mut script = plain(TWO);
         script.cut = cut;
         script.chunk = cut % 7;
-        let ended = run(&rt, rt.alloc(), &script)?;
         let (saves, last) = saved_by(cut);
-        assert!(rt; ended_so(&ended, 6, saves, last), "cut after {cut}");
+        if !ends_so(rt, alloc, &script, 6, saves, last)? {
+            return Ok(Some(cut));
+        }
     }
-    Ok(())
+    Ok(None)
 }
 
-#[test]
-fn stores_fail_at_each_call(rt: HostRuntime) -> Result<(), Fail> {
-    let cases = [(0u64, 0usize, EMPTY), (1, 0, EMPTY), (2, 1, FIRST)];
-    for (call, saves, last) in cases {
-        let fails = [call];
-        let mut script = plain(&[STACK, SITE, DONE]);
-        script.store_fails = &fails;
-        let ended = run(&rt, rt.alloc(), &script)?;
-        assert!(rt; ended_so(&ended, 5, saves, last), "call {call}");
+/// What fails.
+#[derive(Clone, Copy)]
+enum Failing {
+    Start,
+    Store,
+    /// The bytes of the save arrive all the same.
+    Save,
+    Reading,
+    Writing,
+}
+
+/// Two components, where these calls fail.
+fn script_for<'a>(part: Failing, calls: &'a [u64]) -> Script<'a> {
+    let mut script = plain(TWO);
+    match part {
+        Failing::Start => script.spawner_fails = calls,
+        Failing::Store => script.store_fails = calls,
+        Failing::Save => {
+            script.store_fails = calls;
+            script.store_arrives = calls;
+        }
+        Failing::Reading => script.reading_fails = calls,
+        Failing::Writing => script.writing_fails = calls,
     }
-    Ok(())
+    script
 }
 
-#[test]
-fn failing_saves_may_arrive(rt: HostRuntime) -> Result<(), Fail> {
-    let mut script = plain(&[STACK, SITE, DONE]);
-    script.store_fails = &[2];
-    script.store_arrives = &[2];
-    let ended = run(&rt, rt.alloc(), &script)?;
-    assert!(rt; ended_so(&ended, 5, 2, SECOND));
-    Ok(())
-}
-
-#[test]
-fn readings_fail_at_each_call(rt: HostRuntime) -> Result<(), Fail> {
+/// The place in the table of the first failing call after which the run ends otherwise than it should.
+fn bad_failure<R: Threads + Wait + Sync>(
+    rt: &R,
+    alloc: Global,
+) -> Result<Option<usize>, AllocError> {
     let cases = [
-        (0u64, 0usize, EMPTY),
-        (1, 0, EMPTY),
-        (2, 1, FIRST),
-        (3, 1, FIRST),
-        (4, 2, SECOND),
-        (5, 2, SECOND),
+        (Failing::Start, 0u64, 0usize, EMPTY),
+        (Failing::Store, 0, 0, EMPTY),
+        (Failing::Store, 1, 0, EMPTY),
+        (Failing::Store, 2, 1, FIRST),
+        (Failing::Save, 2, 2, SECOND),
+        (Failing::Reading, 0, 0, EMPTY),
+        (Failing::Reading, 1, 0, EMPTY),
+        (Failing::Reading, 2, 1, FIRST),
+        (Failing::Reading, 3, 1, FIRST),
+        (Failing::Reading, 4, 2, SECOND),
+        (Failing::Reading, 5, 2, SECOND),
+        (Failing::Writing, 0, 1, FIRST),
+        (Failing::Writing, 1, 1, FIRST),
+        (Failing::Writing, 2, 2, SECOND),
+        (Failing::Writing, 3, 2, SECOND),
     ];
-    for (call, saves, last) in cases {
-        let fails = [call];
-        let mut script = plain(&[STACK, SITE, DONE]);
-        script.reading_fails = &fails;
-        let ended = run(&rt, rt.alloc(), &script)?;
-        assert!(rt; ended_so(&ended, 5, saves, last), "call {call}");
+    for (at, (part, call, saves, last)) in cases.into_iter().enumerate() {
+        let calls = [call];
+        if !ends_so(rt, alloc, &script_for(part, &calls), 5, saves, last)? {
+            return Ok(Some(at));
+        }
     }
-    Ok(())
+    Ok(None)
 }
 
-#[test]
-fn writings_fail_at_each_call(rt: HostRuntime) -> Result<(), Fail> {
-    let cases = [
-        (0u64, 1usize, FIRST),
-        (1, 1, FIRST),
-        (2, 2, SECOND),
-        (3, 2, SECOND),
-    ];
-    for (call, saves, last) in cases {
-        let fails = [call];
-        let mut script = plain(&[STACK, SITE, DONE]);
-        script.writing_fails = &fails;
-        let ended = run(&rt, rt.alloc(), &script)?;
-        assert!(rt; ended_so(&ended, 5, saves, last), "call {call}");
-    }
-    Ok(())
-}
-
-#[test]
-fn hosts_are_not_started(rt: HostRuntime) -> Result<(), Fail> {
-    let mut script = plain(&[STACK, SITE, DONE]);
-    script.spawner_fails = &[0];
-    assert!(rt;
-        ended_so(&run(&rt, rt.alloc(), &script)?, 5, 0, EMPTY),
-        "the start fails"
-    );
+/// Whether nothing is done over a store that has a content.
+fn spares_content<R: Threads + Wait + Sync>(rt: &R, alloc: Global) -> Result<bool, AllocError> {
+    let mut script = plain(TWO);
     script.content = FIRST;
-    assert!(rt;
-        ended_so(&run(&rt, rt.alloc(), &script)?, 3, 1, FIRST),
-        "a content stands"
-    );
-    Ok(())
+    ends_so(rt, alloc, &script, 3, 1, FIRST)
 }
 
-#[test]
-fn bad_messages_lose_nothing(rt: HostRuntime) -> Result<(), Fail> {
+/// The first message that may not stand there and of which the outcome has other bytes, or a save is lost.
+fn bad_message<R: Threads + Wait + Sync>(
+    rt: &R,
+    alloc: Global,
+) -> Result<Option<&'static str>, AllocError> {
     let cases = [
         "x",
         "{}",
@@ -289,30 +289,62 @@ fn bad_messages_lose_nothing(rt: HostRuntime) -> Result<(), Fail> {
         r#"{"call":"register","custom":true,"n":2,"name":"s","type":"my:index:Site"}"#,
     ];
     for message in cases {
-        let ended = run(&rt, rt.alloc(), &plain(&[STACK, message, DONE]))?;
+        let ended = run(rt, alloc, &plain(&[STACK, message, DONE]))?;
         let kept = match &ended.outcome {
             Outcome::BadFrame { bytes, .. } => bytes.as_slice() == message.as_bytes(),
             _ => false,
         };
-        assert!(rt; kept && ended_so(&ended, 6, 1, FIRST), "{message}");
+        if !kept || !ended_so(&ended, 6, 1, FIRST) {
+            return Ok(Some(message));
+        }
     }
+    Ok(None)
+}
+
+/// The place that the words are refused at; the greatest number where the call ends otherwise.
+fn refused_at<R: Threads + Wait + Sync>(
+    rt: &R,
+    alloc: Global,
+    words: &[&str],
+) -> Result<u64, AllocError> {
+    let ended = run(rt, alloc, &script_of(words, &[DONE]))?;
+    match ended.outcome {
+        Outcome::BadWords { place } if ended.status == 2 => Ok(place),
+        _ => Ok(u64::MAX),
+    }
+}
+
+#[test]
+fn components_are_served(rt: HostRuntime) -> Result<(), Fail> {
+    assert!(rt;
+        ends_so(&rt, rt.alloc(), &plain(&[DONE]), 0, 0, EMPTY)?,
+        "an empty program"
+    );
+    assert!(rt; leaves_all(&rt, rt.alloc())?, "two components");
     Ok(())
 }
 
 #[test]
-fn bad_words_places(rt: HostRuntime) -> Result<(), Fail> {
-    let cases: [(&[&str], u64); 3] = [
-        (&[], 0),
-        (&["up", "--stack"], 1),
-        (&["up", "--stack", "dev", "--", "h"], 3),
-    ];
-    for (words, want) in cases {
-        let ended = run(&rt, rt.alloc(), &script_of(words, &[DONE]))?;
-        let place = match ended.outcome {
-            Outcome::BadWords { place } => place,
-            _ => u64::MAX,
-        };
-        assert!(rt; ended.status == 2 && place == want, "{want}");
-    }
+fn host_bytes_are_cut_anywhere(rt: HostRuntime) -> Result<(), Fail> {
+    assert_eq!(rt; bad_cut(&rt, rt.alloc())?, None);
+    Ok(())
+}
+
+#[test]
+fn calls_fail_in_turn(rt: HostRuntime) -> Result<(), Fail> {
+    assert_eq!(rt; bad_failure(&rt, rt.alloc())?, None);
+    Ok(())
+}
+
+#[test]
+fn nothing_is_lost(rt: HostRuntime) -> Result<(), Fail> {
+    assert!(rt; spares_content(&rt, rt.alloc())?, "a content stands");
+    assert_eq!(rt; bad_message(&rt, rt.alloc())?, None);
+    assert_eq!(rt; refused_at(&rt, rt.alloc(), &[])?, 0);
+    assert_eq!(rt; refused_at(&rt, rt.alloc(), &["up", "--stack"])?, 1);
+    assert_eq!(rt;
+        refused_at(&rt, rt.alloc(), &["up", "--stack", "dev", "--", "h"])?,
+        3
+    );
     Ok(())
 }

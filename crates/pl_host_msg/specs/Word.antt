@@ -37,6 +37,7 @@ has_empty_lists message =
 unfoldable pub has_no_choices : Data → Bool
 has_no_choices message =
     is_left_out (field (codes "provider") message)
+    && is_left_out (field (codes "deletedWith") message)
     && is_left_out (field (codes "importId") message)
     && is_left_out (field (codes "version") message)
     && is_left_out (field (codes "deleteBeforeReplace") message)

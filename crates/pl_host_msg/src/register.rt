@@ -84,6 +84,7 @@ fn has_no_choices(message: &Value) -> bool
     ensures { result ≡ has_no_choices (view message.now) }
 {
     is_left_out(message, "provider")
+        && is_left_out(message, "deletedWith")
         && is_left_out(message, "importId")
         && is_left_out(message, "version")
         && is_left_out(message, "deleteBeforeReplace")

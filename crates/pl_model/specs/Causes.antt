@@ -3,11 +3,13 @@ use Rattle.std.specs.Prelude.{◌≡◌, ℕ, Bool, true, false, ◌||◌, List,
 use Rattle.pl_world.specs.Counts.{Rose}
 use Rattle.pl_events.specs.declared.event.Event.{Event}
 use Rattle.pl_events.specs.declared.event.What.{What}
-use Rattle.pl_events.specs.declared.event.What.TheVariants.{HostGone, Stopped}
+use Rattle.pl_events.specs.declared.event.What.TheVariants.{HostGone, Lost, Stopped}
 use Rattle.pl_events.specs.declared.event.HostEnd.{HostEnd}
 use Rattle.pl_events.specs.declared.event.HostEnd.TheVariants as ended
 use Rattle.pl_events.specs.declared.event.Stop.{Stop}
 use Rattle.pl_events.specs.declared.event.Stop.TheVariants as stopped
+use Rattle.pl_events.specs.declared.reply.Loss.{Loss}
+use Rattle.pl_events.specs.declared.reply.Loss.TheVariants as lost
 
 -- the counts of a run: the store's faults at its start and at its end; the faults and ends of the host's
 -- reading half and the faults of its writing half, which began at 0; and whether memory was wanted
@@ -54,6 +56,11 @@ abbrev pub is_want_end : HostEnd → Bool
 is_want_end ended.NoMemory = true
 is_want_end _ = false
 
+-- whether the loss is want of memory
+abbrev pub is_want_loss : Loss → Bool
+is_want_loss lost.NoMemory = true
+is_want_loss _ = false
+
 -- whether the event is a stop of this kind
 abbrev pub is_stop_by : (Stop → Bool) → What → Bool
 is_stop_by kind (Stopped stop) = kind stop
@@ -77,6 +84,7 @@ has_end_by kind (event ∷ past) = is_end_by kind event.what || has_end_by kind 
 -- whether the event says that memory was wanted
 abbrev pub is_want : What → Bool
 is_want (HostGone end) = is_want_end end
+is_want (Lost ticket why) = is_want_loss why
 is_want (Stopped stop) = is_want_stop stop
 is_want _ = false
 

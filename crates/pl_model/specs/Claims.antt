@@ -5,9 +5,10 @@ use Rattle.std.specs.List.{list_any, enumerate_from}
 use Rattle.std.specs.Option.{option_or}
 use Rattle.pl_urn.specs.Grammar.{is_empty, is_colon}
 use Rattle.pl_urn.specs.Cut.{has_cut}
+use Rattle.pl_options.specs.Names.{id_text}
 use Rattle.pl_state.specs.Chain.{chain_of}
 use Rattle.pl_state.specs.Kinds.{is_provider_goal, is_provider_row}
-use Rattle.pl_state.specs.Sound.{has_urn}
+use Rattle.pl_state.specs.References.{has_urn}
 use Rattle.pl_state.specs.declared.entry.Entry.{Entry}
 use Rattle.pl_state.specs.declared.goal.Goal.{Goal}
 use Rattle.pl_decide.specs.declared.decision.Decision.{Decision}
@@ -98,11 +99,12 @@ claimed_row run claim = option_and_then (λ row. slice_get (rows_of run) row) cl
 abbrev pub claimer_of : List Decided → ℕ → Option ℕ
 claimer_of decided row = number_where (λ one. is_row one.claim row) decided
 
--- an id that a reference can name: it holds no `::` and does not begin with `:`
+-- whether an id begins with `:`
 abbrev pub begins_with_colon : List ℕ → Bool
 begins_with_colon [] = false
 begins_with_colon (first ∷ others) = is_colon first
 
+-- whether a reference can name an id: it is not empty, holds no `::` and does not begin with `:`
 abbrev pub is_usable : List ℕ → Bool
 is_usable id = not (is_empty id) && not (has_cut id) && not (begins_with_colon id)
 
@@ -112,3 +114,7 @@ usable_id (Some id) = if is_usable id then Some id else None
 
 abbrev pub id_of_row : Option Entry → Option (List ℕ)
 id_of_row row = option_and_then (λ entry. entry.id) row
+
+-- a provider's id: its claim's if that is usable, or else the one made of the number that its keep carries
+abbrev pub kept_provider_id : Option Entry → Option ℕ → Option (List ℕ)
+kept_provider_id claim fresh = option_or (usable_id (id_of_row claim)) (option_map id_text fresh)

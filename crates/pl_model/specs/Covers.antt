@@ -1,7 +1,7 @@
 -- What stands in the checkpoint before an operation is sent.
-use Rattle.std.specs.Prelude.{◌≡◌, ℕ, Bool, true, ◌&&◌, Contains, List, ◌∷◌, ◌++◌, Some}
-use Rattle.std.specs.List.{list_all, list_any}
-use Rattle.pl_state.specs.Sound.{IsSound, has_urn, is_provider}
+use Rattle.std.specs.Prelude.{◌≡◌, ℕ, true, Contains, List, ◌∷◌, ◌++◌, Some}
+use Rattle.pl_state.specs.References.{finds_references}
+use Rattle.pl_state.specs.Sound.{IsSound}
 use Rattle.pl_state.specs.declared.entry.Entry.{Entry}
 use Rattle.pl_state.specs.declared.pending.Pending.{Pending}
 use Rattle.pl_state.specs.declared.pending.PendingKind.{PendingKind}
@@ -10,21 +10,12 @@ use Rattle.pl_state.specs.declared.snapshot.Snapshot.{Snapshot}
 use Rattle.pl_events.specs.declared.event.Event.{Event}
 use Rattle.pl_events.specs.declared.operation.Op.{Op}
 use Rattle.pl_model.specs.Run.{Fixed, Spelling}
-use Rattle.pl_model.specs.Due.{none_or}
 use Rattle.pl_model.specs.History.{known_of}
 use Rattle.pl_model.specs.State.{pending_for, state_of}
 
 -- the text that covers an operation which is begun after this history: that of the state with the operation begun
 abbrev pub cover_of : Fixed → Spelling → List Event → Event → List ℕ
 cover_of run spelling past event = spelling.state_text (state_of run (event ∷ past))
-
--- whether the references of an entry are among the entries
-abbrev pub finds_references : List Entry → Entry → Bool
-finds_references entries row =
-    none_or (λ urn. list_any (has_urn urn) entries) row.parent
-    && none_or (λ reference. list_any (is_provider reference) entries) row.provider
-    && list_all (λ urn. list_any (has_urn urn) entries) row.dependencies
-    && list_all (λ pair. list_all (λ urn. list_any (has_urn urn) entries) pair.1) row.property_dependencies
 
 -- the entries without one of them
 pub record IsWithout (entries : List Entry) (row : Entry) (others : List Entry) : Type 0 where

@@ -4,6 +4,7 @@ use Rattle.std.specs.List.{list_any, list_all, range_with_len, flat_map}
 use Rattle.pl_value.specs.Inside.{any_field_unknown}
 use Rattle.pl_state.specs.Chain.{some_passes}
 use Rattle.pl_state.specs.Kinds.{is_provided, is_provider_goal}
+use Rattle.pl_state.specs.References.{further_urns}
 use Rattle.pl_state.specs.declared.entry.Entry.{Entry}
 use Rattle.pl_state.specs.declared.goal.Goal.{Goal}
 use Rattle.pl_state.specs.declared.pending.Pending.{Pending}
@@ -21,15 +22,15 @@ use Rattle.pl_events.specs.declared.reply.Reply.{Reply}
 use Rattle.pl_events.specs.declared.reply.Reply.TheVariants as reply
 use Rattle.pl_decide.specs.declared.decision.Decision.{Decision}
 use Rattle.pl_decide.specs.declared.decision.Decision.TheVariants as decision
-use Rattle.pl_model.specs.Run.{clears_creates, imports_of, is_preview, is_refresh, most_resources}
+use Rattle.pl_model.specs.Run.{Pairs, clears_creates, imports_of, is_preview, is_refresh, most_resources}
 use Rattle.pl_model.specs.Tickets.{is_coming, is_free, is_lost, is_out, is_source, lane_count, lane_free, lane_source, lanes_from, open_errands, reply_to, same_op, was_begun, was_configured}
 use Rattle.pl_model.specs.Recording.{has_number, posted_of}
 use Rattle.pl_model.specs.Claims.{Decided, chain_of_goal, goal_number, is_create_first, is_delete_first, is_row}
 use Rattle.pl_model.specs.Decisions.{Turn, checked_at, checked_in, is_provider_unknown, is_refused, needs_check, number_at, same_text, wants_diff}
-use Rattle.pl_model.specs.Known.{Fate, refused, Asked, Known, asked_at, decided_goal, goal_at, has_problem, is_recorded, next_turn, number_of}
+use Rattle.pl_model.specs.Known.{Fate, halted, refused, accepted, Asked, Known, asked_at, decided_goal, goal_at, has_problem, is_recorded, next_turn, number_of}
 use Rattle.pl_model.specs.Entries.{old_row}
 use Rattle.pl_model.specs.Problems.{is_creating, is_to_read, pending_create}
-use Rattle.pl_model.specs.Rows.{has_dependents, is_doomed, is_left, is_marked, is_sent, pending_at, row_at, row_numbers, source_of_goal, source_of_pending, source_of_row}
+use Rattle.pl_model.specs.Rows.{has_dependents, is_doomed, is_left, is_marked, is_sent, was_removed, pending_at, row_at, row_numbers, source_of_goal, source_of_pending, source_of_row}
 use Rattle.pl_model.specs.State.{entries_now, is_cleared, pending_of}
 
 -- what the engine may do: answer a request, keep a goal, let a pending operation go, drop a row, or send an
@@ -57,8 +58,7 @@ none_or passes (Some x) = passes x
 abbrev pub references_recorded : Known → Goal → Bool
 references_recorded known goal =
     none_or (is_recorded_urn known) goal.parent && none_or (is_recorded known) goal.provider
-    && list_all (is_recorded_urn known) goal.dependencies
-    && list_all (λ pair. list_all (is_recorded_urn known) pair.1) goal.property_dependencies
+    && list_all (is_recorded_urn known) (further_urns goal)
 
 -- whether a row that is left, is not to be deleted and is not the goal's claim has the goal's URN
 abbrev pub holds_urn : Known → Goal → Decided → ℕ → Bool
@@ -118,11 +118,12 @@ abbrev pub keeps_goal : Known → ℕ → Goal → Decided → Bool
 keeps_goal known number goal one =
     is_placed known number goal one && is_none (op_of_goal known number goal one) && provider_stands known number goal
 
--- whether what a goal that is deleted first takes along is gone
+-- whether what a goal that is deleted first takes along is gone: its claim was deleted or dropped, and no row of its
+-- chain is left
 abbrev pub way_is_free : Known → Decided → Bool
 way_is_free known one =
     not (is_delete_first one.decision)
-    || (none_or (λ row. not (is_left known row)) one.claim
+    || (none_or (was_removed known) one.claim
     && list_all (λ row. not (is_left known row)) (chain_of_goal known.run one))
 
 abbrev pub sends_goal : Known → ℕ → Op → Goal → Decided → Bool
@@ -139,16 +140,18 @@ is_keep_ready known number = for_decided known number (keeps_goal known number)
 
 -- ---- rows and pending operations
 
--- whether a row can be taken out: it is doomed, and no later row that refers to it is left; a preview takes none
+-- whether a row can be deleted or dropped: it is doomed, that was not done yet, and no later row that refers to it
+-- is left; a preview takes none
 abbrev pub is_removable : Known → ℕ → Bool
 is_removable known row =
-    is_doomed known row && not (has_dependents known row) && not (is_preview known.run.mode)
+    is_doomed known row && not (was_removed known row) && not (has_dependents known row)
+    && not (is_preview known.run.mode)
 
 abbrev pub is_drop_ready : Known → ℕ → Bool
-is_drop_ready known row = is_removable known row && some_passes (λ entry. not (is_sent entry)) (row_at known row)
+is_drop_ready known row = is_removable known row && not (is_sent known row)
 
 abbrev pub is_delete_ready : Known → ℕ → Bool
-is_delete_ready known row = is_removable known row && some_passes is_sent (row_at known row)
+is_delete_ready known row = is_removable known row && is_sent known row
 
 abbrev pub was_read : Known → ℕ → Bool
 was_read known row = is_some (reply_to known.answers (op.Read (subject.Row row)))
@@ -177,10 +180,6 @@ is_clear_ready known at =
 
 -- ---- requests
 
-abbrev pub is_refused_fate : Fate → Bool
-is_refused_fate (refused problem) = true
-is_refused_fate _ = false
-
 -- in a preview, whether an invoke is answered without being sent: its arguments or its provider's inputs are not
 -- known
 abbrev pub is_unsent : Known → Request → Option ℕ → Bool
@@ -197,15 +196,21 @@ is_result _ = false
 abbrev pub is_recorded_about : Known → Option ℕ → Bool
 is_recorded_about known about = some_passes (is_recorded known) about
 
--- whether a request has its result
+-- whether an accepted request has its result
 abbrev pub has_result : Known → Request → Option ℕ → Bool
 has_result known (Register n told) about = is_recorded_about known about
 has_result known (Outputs n urn outputs) about = is_recorded_about known about
 has_result known (Invoke n token args provider version) about =
     is_result (reply_to known.answers (op.Invoke n)) || is_unsent known (Invoke n token args provider version) about
 
+-- whether a request has all that its answer needs: it is refused, or it is accepted and has its result
+abbrev pub is_settled_fate : Known → Asked → Fate → Bool
+is_settled_fate known asked halted = false
+is_settled_fate known asked (refused problem) = true
+is_settled_fate known asked accepted = has_result known asked.request asked.about
+
 abbrev pub is_settled_request : Known → Asked → Bool
-is_settled_request known asked = is_refused_fate asked.fate || has_result known asked.request asked.about
+is_settled_request known asked = is_settled_fate known asked asked.fate
 
 abbrev pub has_open : Known → Bool
 has_open known = is_some (slice_get (open_errands known.history) 0)
@@ -272,6 +277,47 @@ is_asked known (op.Invoke n) = some_passes (λ asked. is_invoke known asked.requ
 abbrev pub is_wanted_op : Known → Op → Bool
 is_wanted_op known about = not (was_begun known.history about) && is_asked known about
 
+-- ---- the limit
+
+abbrev pub counts : PendingKind → Bool
+counts Updating = false
+counts Deleting = false
+counts _ = true
+
+abbrev pub is_counted : Pending → Bool
+is_counted pending = counts pending.kind
+
+abbrev pub reads_goal : Op → Bool
+reads_goal (op.Read (subject.Goal number)) = true
+reads_goal _ = false
+
+-- the count that is limited: resources, pending operations other than updates and deletes, and the open imports
+-- and reads of goals
+abbrev pub count_of : Known → ℕ
+count_of known =
+    length (entries_now known) + length (filter is_counted (pending_of known))
+    + length (filter (λ errand. reads_goal errand.op) (open_errands known.history))
+
+-- whether a goal's claim leaves the old entries when the goal is recorded
+abbrev pub claim_leaves : Known → ℕ → Bool
+claim_leaves known number =
+    some_passes (λ one. some_passes (is_left known) one.claim && not (is_create_first one.decision)) (decided_goal known number)
+
+-- how much a piece of work adds to the count
+abbrev pub added_by_op : Op → ℕ
+added_by_op (op.Create about) = 1
+added_by_op (op.Read (subject.Goal number)) = 1
+added_by_op _ = 0
+
+abbrev pub added_by : Known → Work → ℕ
+added_by known (to_keep number) = if claim_leaves known number then 0 else 1
+added_by known (to_send about) = added_by_op about
+added_by known _ = 0
+
+-- whether work would make the count greater than it may be
+abbrev pub passes_limit : Known → Work → Bool
+passes_limit known work = not (added_by known work == 0) && nat_lt most_resources (count_of known + added_by known work)
+
 -- ---- lanes
 
 abbrev pub source_of_subject : Known → Subject → Option Source
@@ -335,19 +381,24 @@ abbrev pub operations_of : Known → List Op
 operations_of known =
     deletes_of known ++ (checks_of known ++ (sends_of known ++ (reads_of known ++ (imports_read known ++ invokes_of known))))
 
--- whether one more lane of a source is to be started: work of the source is to be done, no lane of it is free or
--- being configured, and it has fewer than it may have
+-- whether one more lane of a source is to be started: work of the source is to be done that is not over the limit, no
+-- lane of it is free or being configured, and it has fewer than it may have
 abbrev pub wants_lane : Known → Source → Bool
 wants_lane known wanted =
-    list_any (λ about. is_source (source_of_op known about) wanted && is_wanted_op known about) (operations_of known)
+    list_any (λ about. is_source (source_of_op known about) wanted && is_wanted_op known about
+    && not (passes_limit known (to_send about))) (operations_of known)
     && is_none (lane_free known.history wanted)
     && not (list_any (is_coming known.history) (lanes_from known.history wanted))
     && nat_lt (length (lanes_from known.history wanted)) known.run.parallel
 
+-- whether a provider's inputs were checked and it is to be configured: not in a preview where they are not known
+abbrev pub may_configure : Known → Pairs → Bool
+may_configure known checked = not (is_preview known.run.mode && any_field_unknown checked)
+
 -- whether the lane is the one on which a provider's inputs were checked, and is to be configured now
 abbrev pub is_checked_lane : Known → Source → ℕ → Bool
 is_checked_lane known (source.Goal number) lane =
-    is_some (checked_in (reply_to known.answers (op.CheckConfig (subject.Goal number))))
+    some_passes (may_configure known) (checked_in (reply_to known.answers (op.CheckConfig (subject.Goal number))))
     && is_source (lane_source known.history lane) (source.Goal number)
     && not (was_begun known.history (op.Configure (source.Goal number)))
     && not (is_out known.history lane) && not (is_lost known.history lane)
@@ -378,46 +429,7 @@ is_ready known (to_clear at) = not (has_problem known) && is_clear_ready known a
 is_ready known (to_drop row) = not (has_problem known) && is_drop_ready known row
 is_ready known (to_send about) = is_ready_op known about
 
--- ---- the limit
-
-abbrev pub counts : PendingKind → Bool
-counts Updating = false
-counts Deleting = false
-counts _ = true
-
-abbrev pub is_counted : Pending → Bool
-is_counted pending = counts pending.kind
-
-abbrev pub reads_goal : Op → Bool
-reads_goal (op.Read (subject.Goal number)) = true
-reads_goal _ = false
-
--- the count that is limited: resources, pending operations other than updates and deletes, and the open imports
--- and reads of goals
-abbrev pub count_of : Known → ℕ
-count_of known =
-    length (entries_now known) + length (filter is_counted (pending_of known))
-    + length (filter (λ errand. reads_goal errand.op) (open_errands known.history))
-
--- whether a goal's claim leaves the old entries when the goal is recorded
-abbrev pub claim_leaves : Known → ℕ → Bool
-claim_leaves known number =
-    some_passes (λ one. some_passes (is_left known) one.claim && not (is_create_first one.decision)) (decided_goal known number)
-
--- how much a piece of work adds to the count
-abbrev pub added_by_op : Op → ℕ
-added_by_op (op.Create about) = 1
-added_by_op (op.Read (subject.Goal number)) = 1
-added_by_op _ = 0
-
-abbrev pub added_by : Known → Work → ℕ
-added_by known (to_keep number) = if claim_leaves known number then 0 else 1
-added_by known (to_send about) = added_by_op about
-added_by known _ = 0
-
--- whether work would make the count greater than it may be
-abbrev pub passes_limit : Known → Work → Bool
-passes_limit known work = not (added_by known work == 0) && nat_lt most_resources (count_of known + added_by known work)
+-- ---- what is due
 
 abbrev pub is_due : Known → Work → Bool
 is_due known work = is_ready known work && not (passes_limit known work)

@@ -3,12 +3,12 @@ use Rattle.std.specs.Prelude.{ℕ, ◌==◌, Bool, true, false, not, ◌||◌, i
 use Rattle.std.specs.List.{filter_map, fold}
 use Rattle.std.specs.Option.{option_or}
 use Rattle.pl_value.specs.Secrets.{marked}
-use Rattle.pl_options.specs.Names.{id_text}
 use Rattle.pl_state.specs.Component.{no_fields}
 use Rattle.pl_state.specs.Kinds.{is_component, is_provider_goal}
 use Rattle.pl_state.specs.declared.entry.Entry.{Entry}
 use Rattle.pl_state.specs.declared.goal.Goal.{Goal}
 use Rattle.pl_reference.specs.declared.reference.ProviderRef.{ProviderRef}
+use Rattle.pl_events.specs.declared.event.Event.{Event}
 use Rattle.pl_events.specs.declared.event.Request.{Request}
 use Rattle.pl_events.specs.declared.event.Request.TheVariants.{Outputs}
 use Rattle.pl_events.specs.declared.event.What.{What}
@@ -18,12 +18,12 @@ use Rattle.pl_events.specs.declared.reply.Reply.TheVariants as reply
 use Rattle.pl_decide.specs.declared.decision.Decision.{Decision}
 use Rattle.pl_decide.specs.declared.decision.Decision.TheVariants as decision
 use Rattle.pl_model.specs.Run.{Pairs}
-use Rattle.pl_model.specs.Tickets.{Closed}
+use Rattle.pl_model.specs.Tickets.{Closed, closed_by}
 use Rattle.pl_model.specs.Recording.{has_number, only_if, recorded_by_reply, recorded_of}
-use Rattle.pl_model.specs.Claims.{Decided, claimed_row, first_some, id_of_row, usable_id}
+use Rattle.pl_model.specs.Claims.{Decided, claimed_row, first_some, id_of_row, kept_provider_id}
 use Rattle.pl_model.specs.Known.{Known, claim_row, decided_goal, goal_at, provider_id}
 use Rattle.pl_model.specs.Planned.{planned_outputs}
-use Rattle.pl_model.specs.Rows.{is_marked, left_rows, row_at}
+use Rattle.pl_model.specs.Rows.{is_marked, is_to_be_made, left_rows, row_at}
 
 -- what a recording adds to the goal: an id, outputs, the errors of a thing that was made in part, and what is
 -- kept unread
@@ -52,10 +52,6 @@ result_of_reply claim (reply.Found id inputs outputs) = Some (result_with (Some 
 result_of_reply claim _ = None
 
 -- ---- without a reply
-
--- a provider's id: its claim's if that is usable, or else the one made of the number that its keep carries
-abbrev pub kept_provider_id : Option Entry → Option ℕ → Option (List ℕ)
-kept_provider_id claim fresh = option_or (usable_id (id_of_row claim)) (option_map id_text fresh)
 
 abbrev pub kept_id : Goal → Option Entry → Option ℕ → Option (List ℕ)
 kept_id goal claim fresh = if is_provider_goal goal then kept_provider_id claim fresh else id_of_row claim
@@ -143,6 +139,8 @@ goal_entry known goal one result = record {
   aliases = goal.aliases;
   import_id = goal.import_id;
   retain_on_delete = goal.retain_on_delete;
+  deleted_with = goal.deleted_with;
+  pending_replacement = false;
   rest = result.rest;
 }
 
@@ -161,11 +159,21 @@ result_answered known number one closed =
     only_if (has_number (numbers_in (recorded_by_reply closed)) number)
     (result_of_reply (claimed_row known.run one.claim) closed.reply)
 
--- what recorded a goal gave to its entry: the event of its keep, or the reply to its operation
+-- what an event gives to the entry of a goal that it records, by the history before it
+abbrev pub result_by : Known → ℕ → Goal → Decided → List Event → What → Option Result
+result_by known number goal one past what =
+    option_or (result_kept known number goal one what)
+    (option_and_then (result_answered known number one) (closed_by past what))
+
+-- what the first of the events that records a goal gave to its entry
+abbrev pub result_from : Known → ℕ → Goal → Decided → List Event → Option Result
+result_from known number goal one [] = None
+result_from known number goal one (event ∷ past) =
+    option_or (result_from known number goal one past) (result_by known number goal one past event.what)
+
+-- what recorded a goal gave to its entry: the keep, or the reply to its operation
 abbrev pub recording_of : Known → ℕ → Goal → Decided → Option Result
-recording_of known number goal one =
-    option_or (first_some (λ event. result_kept known number goal one event.what) known.history)
-    (first_some (result_answered known number one) known.answers)
+recording_of known number goal one = result_from known number goal one known.history
 
 -- the entry of a recorded goal, without outputs that were told
 abbrev pub entry_of : Known → ℕ → Option Entry
@@ -227,11 +235,15 @@ turned_entry entry turning = record entry {
   provider = option_map (turned_reference turning) entry.provider;
   dependencies = map (turned turning) entry.dependencies;
   property_dependencies = map (λ pair. (pair.0, map (turned turning) pair.1)) entry.property_dependencies;
+  deleted_with = option_map (turned turning) entry.deleted_with;
 }
 
--- a row as it stands now: turned by every alias, and marked where it was replaced
+-- a row as it stands now: turned by every alias, and marked where it was replaced or is to be made anew
 abbrev pub row_now : Known → ℕ → Entry → Entry
-row_now known row entry = record (fold turned_entry entry (turnings known)) { doomed = is_marked known row }
+row_now known row entry = record (fold turned_entry entry (turnings known)) {
+  doomed = is_marked known row;
+  pending_replacement = is_to_be_made known row;
+}
 
 abbrev pub old_row : Known → ℕ → Option Entry
 old_row known row = option_map (row_now known row) (row_at known row)

@@ -13,6 +13,10 @@ pub record Causes : Type 0 where
 abbrev pub IsBadLength : List ℕ → Type 0
 IsBadLength bytes = (n : ℕ) × (n < 2 ^ 32) × ((n ≡ 0) ⊎ (longest_body < n)) × (bytes ≡ length_bytes n)
 
+-- a body that is no message there, or the four bytes of a bad length
+abbrev pub IsBad : (List ℕ → Type 0) → List ℕ → Type 0
+IsBad IsNoMessage bytes = (IsBody bytes × IsNoMessage bytes) ⊎ IsBadLength bytes
+
 -- the frame of a body that is no message there, or the four bytes of a bad length
 abbrev pub IsBadFrame : (List ℕ → Type 0) → List ℕ → List ℕ → Type 0
 IsBadFrame IsNoMessage bytes added =

@@ -1,5 +1,5 @@
 -- What was taken from the host's reading half, and what its writing half was given.
-use Rattle.std.specs.Prelude.{◌≡◌, ◌⊎◌, ℕ, Bool, true, false, All, Option, Some, None, List, [], ◌∷◌, ◌++◌, IfSome}
+use Rattle.std.specs.Prelude.{⊤, ◌≡◌, ◌⊎◌, ℕ, Bool, true, false, All, Option, Some, None, List, [], ◌∷◌, ◌++◌, IfSome}
 use Rattle.pl_world.specs.Counts.{Rose}
 use Rattle.pl_world.specs.Told.{Piece, bytes_of}
 use Rattle.pl_world.specs.Frames.{IsPartOfFrame, IsStartOfFrame, frame_of}
@@ -10,8 +10,9 @@ use Rattle.pl_events.specs.declared.event.Request.{Request}
 use Rattle.pl_events.specs.declared.event.What.{What}
 use Rattle.pl_events.specs.declared.event.What.TheVariants.{Told, HostGone, Posted}
 use Rattle.pl_model.specs.Run.{Fixed, Spelling}
+use Rattle.pl_model.specs.Recording.{has_number, posted_of}
 use Rattle.pl_model.specs.Due.{is_post_due}
-use Rattle.pl_model.specs.Frames.{Causes, IsBadFrame, IsBadLength, IsFrameOf, IsLonger}
+use Rattle.pl_model.specs.Frames.{Causes, IsBad, IsBadFrame, IsBadLength, IsFrameOf, IsLonger}
 use Rattle.pl_model.specs.History.{known_of}
 use Rattle.pl_model.specs.Known.{Known}
 use Rattle.pl_model.specs.Posts.{answer_of}
@@ -65,11 +66,12 @@ posted_frames run spelling [] = []
 posted_frames run spelling (event ∷ past) =
     answers_next run spelling past event.what (posted_frames run spelling past)
 
--- a part of one more answer, which was due at a prefix: only where the half's count rose or memory was wanted
+-- a part of one more answer, which was due at a prefix and is not posted: only where the half's count rose or memory
+-- was wanted
 pub record IsOneMore (run : Fixed) (spelling : Spelling) (half : Causes) (history : List Event) (more : List ℕ) : Type 0 where
   pub cause : Rose 0 half.faults ⊎ (half.wanted ≡ true)
   pub of_due : (later past : List Event) × (n : ℕ) × (history ≡ later ++ past)
-      × (is_post_due (known_of run past) n ≡ true)
+      × (is_post_due (known_of run past) n ≡ true) × (has_number (posted_of history) n ≡ false)
       × ((rest : List ℕ) × (more ++ rest ≡ answer_frame run spelling past n))
 
 -- the bytes that the writing half was given
@@ -83,8 +85,19 @@ pub record HostGave (run : Fixed) (spelling : Spelling) (half : Causes) (history
   pub uncovered : All (λ piece. piece.1 ≡ None) pieces
   pub answered : HasAnswered run spelling half history (bytes_of pieces)
 
+-- a bad frame that the host's end says of has its cause in the bytes that stand in the history, whatever the pipe tells
+abbrev pub EndFits : Spelling → Stands → Known → What → Type 0
+EndFits spelling stands known (HostGone (BadFrame bytes)) = IsBad (IsNoMessage spelling stands known) bytes
+EndFits spelling stands known _ = ⊤
+
+abbrev pub EndsFit : Fixed → Spelling → Stands → List Event → Type 0
+EndsFit run spelling stands [] = ⊤
+EndsFit run spelling stands (event ∷ past) =
+    EndFits spelling stands (known_of run past) event.what × EndsFit run spelling stands past
+
 -- the lines of both halves, where they are told
 pub record HostLines (run : Fixed) (spelling : Spelling) (stands : Stands) (reading writing : Causes) (history : List Event)
     (taken : Option (List ℕ)) (given : Option (List Piece)) : Type 0 where
   pub took : IfSome taken (HostTook run spelling stands reading history)
   pub gave : IfSome given (HostGave run spelling writing history)
+  pub ends_fit : EndsFit run spelling stands history

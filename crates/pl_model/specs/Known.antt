@@ -2,7 +2,6 @@
 use Rattle.std.specs.Prelude.{ℕ, ◌==◌, Bool, not, ◌&&◌, ◌||◌, if◌then◌else◌, Option, None, Some, is_some, List, length, find, option_map, option_and_then}
 use Rattle.std.specs.List.{range_with_len, list_all}
 use Rattle.std.specs.Option.{option_or}
-use Rattle.pl_options.specs.Names.{id_text}
 use Rattle.pl_state.specs.declared.entry.Entry.{Entry}
 use Rattle.pl_state.specs.declared.goal.Goal.{Goal}
 use Rattle.pl_events.specs.Closing.{has_host_end}
@@ -14,7 +13,7 @@ use Rattle.pl_decide.specs.declared.problem.Problem.{Problem}
 use Rattle.pl_model.specs.Run.{Fixed, Pairs, has_host}
 use Rattle.pl_model.specs.Tickets.{Closed, answers_of}
 use Rattle.pl_model.specs.Recording.{recorded_of, fresh_of, has_number}
-use Rattle.pl_model.specs.Claims.{Decided, numbered, claimed_row, id_of_row, usable_id}
+use Rattle.pl_model.specs.Claims.{Decided, numbered, claimed_row, kept_provider_id}
 use Rattle.pl_model.specs.Decisions.{Turn, checked_at, decided_of, inputs_at, number_at, turn_in}
 
 -- what becomes of a told request: a problem before it halts it, or it is refused, or it is accepted
@@ -107,8 +106,7 @@ claim_row known goal = claimed_row known.run (claim_of known goal)
 
 -- the id of a provider that is recorded: its claim's if that is usable, or else the one made of its number
 abbrev pub provider_id : Known → ℕ → Option (List ℕ)
-provider_id known goal =
-    option_or (usable_id (id_of_row (claim_row known goal))) (option_map id_text (fresh_of known.history goal))
+provider_id known goal = kept_provider_id (claim_row known goal) (fresh_of known.history goal)
 
 -- whether the host has ended; where a run has none, from the start
 abbrev pub host_ended : Known → Bool

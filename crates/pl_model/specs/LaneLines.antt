@@ -1,5 +1,5 @@
 -- What a lane was given and what was taken from it.
-use Rattle.std.specs.Prelude.{◌≡◌, ◌⊎◌, ℕ, ◌==◌, Bool, true, false, Option, Some, None, List, [], ◌∷◌, ◌++◌, IfSome}
+use Rattle.std.specs.Prelude.{⊤, ◌≡◌, ◌⊎◌, ℕ, ◌==◌, Bool, true, false, Option, Some, None, List, [], ◌∷◌, ◌++◌, IfSome}
 use Rattle.pl_world.specs.Counts.{Rose}
 use Rattle.pl_world.specs.Told.{Bears, Piece}
 use Rattle.pl_world.specs.Frames.{IsPartOfFrame, IsStartOfFrame, frame_of}
@@ -15,7 +15,7 @@ use Rattle.pl_model.specs.Run.{Fixed, Spelling}
 use Rattle.pl_model.specs.Tickets.{Errand, errand_at, loses}
 use Rattle.pl_model.specs.Asked.{ask_of, call_of}
 use Rattle.pl_model.specs.Covers.{cover_of}
-use Rattle.pl_model.specs.Frames.{Causes, IsBadFrame, IsFrameOf, IsLonger}
+use Rattle.pl_model.specs.Frames.{Causes, IsBad, IsBadFrame, IsBadLength, IsFrameOf, IsLonger}
 use Rattle.pl_model.specs.History.{known_of}
 use Rattle.pl_model.specs.Saves.{is_covered}
 use Rattle.std.specs.List.{list_any}
@@ -84,7 +84,8 @@ abbrev pub LossAdds : Spelling → Causes → ℕ → Op → Loss → List ℕ �
 LossAdds spelling pipe ticket about loss.PipeFault added = Rose 0 pipe.faults × IsPartOfFrame added
 LossAdds spelling pipe ticket about loss.Ended added = Rose 0 pipe.ends × IsPartOfFrame added
 LossAdds spelling pipe ticket about (loss.BadFrame bytes) added = IsBadFrame (IsNoReply spelling ticket about) bytes added
-LossAdds spelling pipe ticket about loss.NoMemory added = (pipe.wanted ≡ true) × IsStartOfFrame added
+LossAdds spelling pipe ticket about loss.NoMemory added =
+    (pipe.wanted ≡ true) × (IsStartOfFrame added ⊎ IsBadLength added)
 
 -- a frame that spells a reply
 abbrev pub ReplyAdds : Spelling → ℕ → Op → Reply → List ℕ → Type 0
@@ -120,8 +121,31 @@ LaneTook spelling pipe lane [] taken = taken ≡ []
 LaneTook spelling pipe lane (event ∷ past) taken =
     TookNext spelling pipe lane past event.what (LaneTook spelling pipe lane past) taken
 
+-- the cause of a loss, whatever the pipe tells
+abbrev pub LossFits : Spelling → Causes → ℕ → Op → Loss → Type 0
+LossFits spelling pipe ticket about loss.PipeFault = Rose 0 pipe.faults
+LossFits spelling pipe ticket about loss.Ended = Rose 0 pipe.ends
+LossFits spelling pipe ticket about (loss.BadFrame bytes) = IsBad (IsNoReply spelling ticket about) bytes
+LossFits spelling pipe ticket about loss.NoMemory = pipe.wanted ≡ true
+
+abbrev pub LossFitsIf : Spelling → Causes → ℕ → Loss → Option Op → Type 0
+LossFitsIf spelling pipe ticket why None = ⊤
+LossFitsIf spelling pipe ticket why (Some about) = LossFits spelling pipe ticket about why
+
+abbrev pub FitsNext : Spelling → Causes → ℕ → List Event → What → Type 0
+FitsNext spelling pipe lane past (Lost ticket why) =
+    LossFitsIf spelling pipe ticket why (on_lane lane (errand_at past ticket))
+FitsNext spelling pipe lane past _ = ⊤
+
+-- each loss on the lane has its cause
+abbrev pub LossesFit : Spelling → Causes → ℕ → List Event → Type 0
+LossesFit spelling pipe lane [] = ⊤
+LossesFit spelling pipe lane (event ∷ past) =
+    FitsNext spelling pipe lane past event.what × LossesFit spelling pipe lane past
+
 -- the lines of a lane, where they are told
 pub record LaneLines (run : Fixed) (spelling : Spelling) (pipe : Causes) (history : List Event) (lane : ℕ)
     (taken : Option (List ℕ)) (given : Option (List Piece)) : Type 0 where
   pub gave : IfSome given (LaneGave run spelling history lane history)
   pub took : IfSome taken (LaneTook spelling pipe lane history)
+  pub losses_fit : LossesFit spelling pipe lane history

@@ -19,7 +19,7 @@ use Rattle.pl_model.specs.Claims.{id_of_row, usable_id}
 use Rattle.pl_model.specs.Due.{due_work, has_open, is_due, is_due_on, is_post_due, over_limit, to_clear, to_drop, to_keep}
 use Rattle.pl_model.specs.History.{known_of}
 use Rattle.pl_model.specs.Known.{Asked, Known, asked_at, claim_row, goal_at, host_ended, number_of}
-use Rattle.pl_model.specs.Posts.{answer_for, is_too_long}
+use Rattle.pl_model.specs.Posts.{answer_of, is_too_long}
 
 -- the number of the newest request that was told, 0 where none was
 abbrev pub last_of : List Asked → ℕ
@@ -93,7 +93,7 @@ is_long_ask spelling known about =
 abbrev pub MayBeTooLong : Spelling → Known → Type 0
 MayBeTooLong spelling known =
     ((about : Op) × (lane : ℕ) × (is_due_on known about lane ≡ true) × (is_long_ask spelling known about ≡ true))
-    ⊎ ((n : ℕ) × (is_post_due known n ≡ true) × (is_too_long spelling n (answer_for known (asked_at known n)) ≡ true))
+    ⊎ ((n : ℕ) × (is_post_due known n ≡ true) × (is_too_long spelling n (answer_of spelling known n) ≡ true))
 
 -- what a stop tells of the history before it
 abbrev pub StopFits : Spelling → Known → Stop → Type 0

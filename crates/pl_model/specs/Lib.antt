@@ -13,6 +13,8 @@ pub mod Planned
 pub mod Entries
 pub mod State
 pub mod Due
+pub mod Choice
+pub mod Left
 pub mod Asked
 pub mod Posts
 pub mod Legal

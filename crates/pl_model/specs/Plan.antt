@@ -1,14 +1,14 @@
 -- The plan of a history: a step for each goal, and one for each row that is to be deleted.
-use Rattle.std.specs.Prelude.{ℕ, Bool, not, ◌&&◌, ◌||◌, if◌then◌else◌, Option, None, Some, List, ◌∷◌, ◌++◌, reverse, option_and_then}
+use Rattle.std.specs.Prelude.{ℕ, Bool, not, ◌&&◌, ◌||◌, if◌then◌else◌, Option, None, Some, List, ◌∷◌, ◌++◌, ◌-◌, drop, length, reverse, option_and_then}
 use Rattle.std.specs.List.{filter_map, list_any}
 use Rattle.pl_state.specs.Chain.{some_passes}
-use Rattle.pl_state.specs.Sound.{has_urn}
+use Rattle.pl_state.specs.References.{has_urn}
 use Rattle.pl_state.specs.declared.entry.Entry.{Entry}
 use Rattle.pl_state.specs.declared.goal.Goal.{Goal}
 use Rattle.pl_events.specs.declared.event.Event.{Event}
 use Rattle.pl_decide.specs.Permits.{delete_replaced_step, delete_step, step_name}
 use Rattle.pl_model.specs.Run.{Fixed}
-use Rattle.pl_model.specs.Claims.{Decided, claimer_of, is_chained, is_claimed}
+use Rattle.pl_model.specs.Claims.{Decided, claimed_row, claimer_of, is_chained, is_claimed}
 use Rattle.pl_model.specs.Decisions.{is_refused, is_replacement}
 use Rattle.pl_model.specs.Due.{goal_numbers}
 use Rattle.pl_model.specs.History.{known_of}
@@ -19,21 +19,35 @@ use Rattle.pl_model.specs.Rows.{row_at, row_numbers}
 abbrev pub Step : Type 0
 Step = List ℕ × List ℕ
 
--- whether a row of one of the goal's URNs was taken by a chain, and by no earlier goal
-abbrev pub was_taken : Known → Goal → Bool
-was_taken known goal =
-    list_any (λ row. is_chained known.run known.decided row && not (is_claimed known.decided row)
-    && some_passes (λ entry. list_any (λ urn. has_urn urn entry) (goal.urn ∷ goal.aliases)) (row_at known row))
+-- what is decided of the goals before a goal
+abbrev pub decided_before : Known → ℕ → List Decided
+decided_before known number = drop (length known.decided - number) known.decided
+
+-- whether a row is one of the goal's URNs and is not to be deleted
+abbrev pub is_of_goal : Goal → Entry → Bool
+is_of_goal goal entry = not entry.doomed && list_any (λ urn. has_urn urn entry) (goal.urn ∷ goal.aliases)
+
+-- whether a row of one of the goal's URNs was taken by an earlier goal's chain, and by no earlier goal's claim
+abbrev pub was_taken : Known → ℕ → Goal → Bool
+was_taken known number goal =
+    list_any (λ row. is_chained known.run (decided_before known number) row
+    && not (is_claimed (decided_before known number) row) && some_passes (is_of_goal goal) (row_at known row))
     (row_numbers known)
 
-abbrev pub goal_step : Known → Goal → Decided → Option Step
-goal_step known goal one =
-    if is_refused one.decision then None else Some (goal.urn, step_name (was_taken known goal) one.decision)
+-- whether a creation replaces what was deleted first: in this run, or in an earlier one that did not get to it
+abbrev pub replaces_deleted : Known → ℕ → Goal → Decided → Bool
+replaces_deleted known number goal one =
+    was_taken known number goal || some_passes (λ row. row.pending_replacement) (claimed_row known.run one.claim)
+
+abbrev pub goal_step : Known → ℕ → Goal → Decided → Option Step
+goal_step known number goal one =
+    if is_refused one.decision then None
+    else Some (goal.urn, step_name (replaces_deleted known number goal one) one.decision)
 
 -- the step of a goal, once it is decided and not refused
 abbrev pub step_of_goal : Known → ℕ → Option Step
 step_of_goal known number =
-    option_and_then (λ goal. option_and_then (goal_step known goal) (decided_goal known number)) (goal_at known number)
+    option_and_then (λ goal. option_and_then (goal_step known number goal) (decided_goal known number)) (goal_at known number)
 
 -- whether a row is the claim of a goal that is replaced
 abbrev pub is_to_be_replaced : Known → ℕ → Bool

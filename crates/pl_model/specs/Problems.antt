@@ -2,15 +2,14 @@
 use Rattle.std.specs.Prelude.{ℕ, ◌-◌, Bool, true, false, not, ◌&&◌, ◌||◌, if◌then◌else◌, Option, None, Some, is_some, is_none, List, [], ◌++◌, length, find, map, take, reverse, option_map, option_and_then, slice_get, bytes_eq}
 use Rattle.std.specs.List.{list_any, filter_map, enumerate_from}
 use Rattle.std.specs.Option.{option_or}
-use Rattle.pl_urn.specs.Cut.{cut}
 use Rattle.pl_state.specs.Chain.{last_provider, refers_to, some_passes}
 use Rattle.pl_state.specs.Kinds.{is_provided_row}
-use Rattle.pl_state.specs.Sound.{keeps_urn}
+use Rattle.pl_state.specs.References.{keeps_urn}
 use Rattle.pl_state.specs.declared.entry.Entry.{Entry}
 use Rattle.pl_state.specs.declared.pending.Pending.{Pending}
 use Rattle.pl_state.specs.declared.pending.PendingKind.{PendingKind}
 use Rattle.pl_state.specs.declared.pending.PendingKind.TheVariants.{Creating}
-use Rattle.pl_reference.specs.declared.reference.ProviderRef.{ProviderRef}
+use Rattle.pl_reference.specs.Reference.{reference_text}
 use Rattle.pl_events.specs.declared.event.What.{What}
 use Rattle.pl_events.specs.declared.event.What.TheVariants.{Told, HostGone, Answered, Lost, Stopped}
 use Rattle.pl_events.specs.declared.event.HostEnd.{HostEnd}
@@ -36,7 +35,8 @@ use Rattle.pl_model.specs.Tickets.{Closed, closed_by, errand_at}
 use Rattle.pl_model.specs.Recording.{has_number}
 use Rattle.pl_model.specs.Claims.{Decided, chain_of_goal, claimer_of, first_some, is_create_first}
 use Rattle.pl_model.specs.Known.{Fate, refused, Known, decided_goal, goal_at, has_problem, is_over, known_by}
-use Rattle.pl_model.specs.Requests.{fate_of, first_in, option_list}
+use Rattle.pl_state.specs.References.{option_list}
+use Rattle.pl_model.specs.Requests.{fate_of, first_in}
 use Rattle.pl_model.specs.Rows.{is_doomed, is_left, is_sent, pending_at, row_at, row_numbers, takes_along}
 
 -- ---- single events
@@ -134,8 +134,8 @@ refusal_in (Refused trouble) = Some trouble
 refusal_in _ = None
 
 -- whether a row must be sent for and has no provider
-abbrev pub lacks_provider : Entry → Bool
-lacks_provider row = is_sent row && is_none row.provider
+abbrev pub lacks_provider : Known → ℕ → Bool
+lacks_provider known row = is_sent known row && some_passes (λ entry. is_none entry.provider) (row_at known row)
 
 -- whether a row is the claim of a goal that is replaced, the new thing first
 abbrev pub is_claimed_beside : Known → ℕ → Bool
@@ -149,7 +149,7 @@ has_deleted known one row =
 
 abbrev pub lacking_in : Known → Decided → ℕ → Option (List ℕ)
 lacking_in known one row =
-    if has_deleted known one row && some_passes lacks_provider (row_at known row)
+    if has_deleted known one row && lacks_provider known row
     then option_map (λ entry. entry.urn) (row_at known row) else None
 
 -- the first row that a goal has deleted and that lacks its provider
@@ -214,7 +214,7 @@ limit_problem known =
 abbrev pub end_problems : Known → List Problem
 end_problems known =
     option_list (first_row known problem.Protected (λ row entry. is_doomed known row && entry.protect))
-    ++ (option_list (first_row known problem.MissingProvider (λ row entry. is_doomed known row && lacks_provider entry))
+    ++ (option_list (first_row known problem.MissingProvider (λ row entry. is_doomed known row && lacks_provider known row))
     ++ option_list (limit_problem known))
 
 -- ---- a run that reads everything anew
@@ -237,9 +237,6 @@ abbrev pub imported_entry : Fixed → List ℕ × List ℕ → Option Entry
 imported_entry run pair =
     option_map (λ pending. pending.entry) (option_and_then (λ at. slice_get run.base.pending at) (pending_create run pair.1))
 
-abbrev pub reference_text : ProviderRef → List ℕ
-reference_text reference = reference.urn ++ (cut ++ reference.id)
-
 -- the text of an entry's provider reference, where no row is that provider
 abbrev pub unmet_provider : Fixed → Entry → Option (List ℕ)
 unmet_provider run entry =
@@ -249,9 +246,9 @@ unmet_provider run entry =
 abbrev pub import_problem : (Entry → Option Problem) → Fixed → List ℕ × List ℕ → Option Problem
 import_problem trouble run pair = option_and_then trouble (imported_entry run pair)
 
--- whether a row is to be read anew
+-- whether a row is to be read anew: it is provided for, and its replacement is not pending
 abbrev pub is_to_read : Entry → Bool
-is_to_read row = is_provided_row row
+is_to_read row = is_provided_row row && not row.pending_replacement
 
 -- the entry's URN as a problem, where it names no provider
 abbrev pub names_none : Entry → Option Problem

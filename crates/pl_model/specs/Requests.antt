@@ -1,6 +1,6 @@
 -- The fate of a told request, and the goals that it makes.
 use Rattle.std.specs.Prelude.{ℕ, Bool, true, false, not, ◌&&◌, if◌then◌else◌, Option, None, Some, is_some, is_none, Ok, Err, List, [], ◌∷◌, ◌++◌, length, filter, find, option_map, option_and_then, slice_get, bytes_eq, codes}
-use Rattle.std.specs.List.{before_first, flat_map}
+use Rattle.std.specs.List.{before_first}
 use Rattle.std.specs.Option.{option_or}
 use Rattle.pl_urn.specs.Grammar.{child_fault, is_colon, package_of}
 use Rattle.pl_value.specs.Marks.{unknown_text}
@@ -11,7 +11,7 @@ use Rattle.pl_state.specs.Chain.{some_passes}
 use Rattle.pl_state.specs.Component.{plain_goal}
 use Rattle.pl_state.specs.Kinds.{is_component, is_provided}
 use Rattle.pl_reference.specs.Reference.{is_reference, reference_in}
-use Rattle.pl_state.specs.Sound.{keeps_urn}
+use Rattle.pl_state.specs.References.{further_urns, keeps_urn, option_list}
 use Rattle.pl_state.specs.declared.entry.Entry.{Entry}
 use Rattle.pl_state.specs.declared.fault.OptionFault.TheVariants.{BadUrn, BadReference}
 use Rattle.pl_state.specs.declared.goal.Goal.{Goal}
@@ -44,16 +44,12 @@ is_met known reference = some_passes (has_id known reference.1) (goal_number kno
 abbrev pub is_met_reference : Known → List ℕ → Bool
 is_met_reference known text = some_passes (is_met known) (reference_in text)
 
-abbrev pub option_list : {X : Type 0} → Option X → List X
-option_list None = []
-option_list (Some x) = x ∷ []
-
 -- the references of a registration that name no earlier goal, in the order in which they are tried
 abbrev pub unknown_references : Known → Registration → Goal → List (List ℕ)
 unknown_references known told goal =
     filter (λ urn. not (has_goal known urn)) (option_list goal.parent)
     ++ (filter (λ text. not (is_met_reference known text)) (option_list (given told.provider))
-    ++ filter (λ urn. not (has_goal known urn)) (goal.dependencies ++ flat_map (λ pair. pair.1) goal.property_dependencies))
+    ++ filter (λ urn. not (has_goal known urn)) (further_urns goal))
 
 abbrev pub first_in : {X : Type 0} → List X → Option X
 first_in xs = slice_get xs 0

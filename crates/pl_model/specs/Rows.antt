@@ -2,7 +2,7 @@
 -- provided for.
 use Rattle.std.specs.Prelude.{ℕ, Bool, not, ◌&&◌, ◌||◌, nat_lt, Option, None, Some, List, length, filter, option_map, option_and_then, slice_get}
 use Rattle.std.specs.List.{list_any, range_with_len}
-use Rattle.pl_state.specs.Chain.{last_provider, provider_row_of, refers_to, some_passes}
+use Rattle.pl_state.specs.Chain.{deleter_row_of, last_provider, provider_row_of, refers_to, some_passes}
 use Rattle.pl_state.specs.Kinds.{is_provided_row}
 use Rattle.pl_state.specs.declared.entry.Entry.{Entry}
 use Rattle.pl_state.specs.declared.pending.Pending.{Pending}
@@ -38,11 +38,26 @@ is_taken_over known row = some_passes (λ goal. not (stands_beside known goal)) 
 abbrev pub is_replaced : Known → ℕ → Bool
 is_replaced known row = some_passes (stands_beside known) (recorded_claimer known row)
 
+-- whether a row was deleted or dropped
+abbrev pub was_removed : Known → ℕ → Bool
+was_removed known row = has_number (removed_of known.history) row
+
+-- whether a row is the claim of a goal that is deleted first
+abbrev pub is_deleted_first : Known → ℕ → Bool
+is_deleted_first known row = list_any (λ one. is_delete_first one.decision && is_row one.claim row) known.decided
+
+-- whether a row's thing was deleted to be made anew: the row holds its URN until its goal is recorded
+abbrev pub is_held : Known → ℕ → Bool
+is_held known row = was_removed known row && is_deleted_first known row
+
+-- whether a row was taken out: it was deleted or dropped, and holds its URN for no goal
+abbrev pub is_taken_out : Known → ℕ → Bool
+is_taken_out known row = was_removed known row && not (is_deleted_first known row)
+
 -- whether a row is still among the old entries
 abbrev pub is_left : Known → ℕ → Bool
 is_left known row =
-    nat_lt row (length (rows_of known.run))
-    && not (has_number (removed_of known.history) row) && not (is_taken_over known row)
+    nat_lt row (length (rows_of known.run)) && not (is_taken_out known row) && not (is_taken_over known row)
 
 -- the numbers of the rows that are left, in order
 abbrev pub left_rows : Known → List ℕ
@@ -51,6 +66,10 @@ left_rows known = filter (is_left known) (row_numbers known)
 -- whether a row is marked to be deleted: in the state at the start, or since it was replaced
 abbrev pub is_marked : Known → ℕ → Bool
 is_marked known row = some_passes (λ entry. entry.doomed) (row_at known row) || is_replaced known row
+
+-- whether the replacement of a row is pending: in the state at the start, or since the row was deleted first
+abbrev pub is_to_be_made : Known → ℕ → Bool
+is_to_be_made known row = some_passes (λ entry. entry.pending_replacement) (row_at known row) || is_held known row
 
 -- whether a goal that is deleted first takes the row along: it is the goal's claim, or it is in its chain and
 -- nobody claims it or it is marked
@@ -72,10 +91,24 @@ is_doomed known row =
     is_left known row && not (is_refresh known.run.mode) && is_target known row
     && (is_over known || list_any (takes_along known row) known.decided)
 
--- whether the deletion of a row is sent to a provider; a component, a provider, and what is only read or is to
--- be retained are dropped
-abbrev pub is_sent : Entry → Bool
-is_sent row = is_provided_row row && not row.external && not row.retain_on_delete
+-- whether the thing of a row is one to be deleted by a provider: not that of a component or of a provider, and not
+-- what is only read or is to be retained
+abbrev pub is_deletable : Entry → Bool
+is_deletable row = is_provided_row row && not row.external && not row.retain_on_delete
+
+-- whether the thing of a row goes with that of another one, whose deletion takes it along: the row that it names is
+-- left, and is to be deleted by a provider
+abbrev pub goes_with : Known → ℕ → Bool
+goes_with known row =
+    some_passes (λ other. is_doomed known other && some_passes is_deletable (row_at known other))
+    (deleter_row_of (rows_of known.run) row)
+
+-- whether the deletion of a row is sent to a provider; else it is dropped: it is none to be deleted, its thing was
+-- deleted in an earlier run and not made anew, or it goes with another one
+abbrev pub is_sent : Known → ℕ → Bool
+is_sent known row =
+    some_passes (λ entry. is_deletable entry && not entry.pending_replacement) (row_at known row)
+    && not (goes_with known row)
 
 -- whether a later row that refers to this one is left
 abbrev pub has_dependents : Known → ℕ → Bool

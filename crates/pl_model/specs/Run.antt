@@ -1,5 +1,6 @@
 -- The fixed data of a run, and the spellings that the definitions leave to the message crates.
-use Rattle.std.specs.Prelude.{ℕ, Bool, true, false, Option, List, []}
+use Rattle.std.specs.Prelude.{◌≡◌, ℕ, Bool, true, false, Option, List, []}
+use Rattle.pl_urn.specs.Grammar.{IsScope}
 use Rattle.pl_value.specs.declared.value.Value.{Value}
 use Rattle.pl_world.specs.declared.frames.TheConstants.{MAX_BODY}
 use Rattle.pl_state.specs.declared.entry.Entry.{Entry}
@@ -72,6 +73,10 @@ clears_creates _ = false
 abbrev pub imports_of : Mode → List (List ℕ × List ℕ)
 imports_of (Refresh clear imports) = imports
 imports_of _ = []
+
+-- where a run has a host, its stack and its project have names that stand in a URN
+abbrev pub HasNames : Fixed → Type 0
+HasNames run = has_host run.mode ≡ true → IsScope run.stack × IsScope run.project
 
 -- the rows of the state at the start
 abbrev pub rows_of : Fixed → List Entry

@@ -142,11 +142,12 @@ pub record IsFurther (run : Fixed) (spelling : Spelling) (history past : List Ev
   pub of_prefix : (later : List Event) × (history ≡ later ++ past)
   pub text_at : IsTextAt run spelling past text
 
--- whether the text for a store fault ends the story
-abbrev pub EndsStory : Fixed → Spelling → Type 0 → List Event → List (List ℕ) → List (List ℕ) → Type 0
-EndsStory run spelling rose history before texts =
+-- the text for a store fault ends the story: no mark is above the prefix whose state it is
+abbrev pub EndsStory : Fixed → Spelling → Type 0 → List Event → List ℕ → List (List ℕ) → List (List ℕ) → Type 0
+EndsStory run spelling rose history marks before texts =
     (texts ≡ before)
-    ⊎ (rose × ((text : List ℕ) × (past : List Event) × IsFurther run spelling history past text × (texts ≡ before ++ text ∷ [])))
+    ⊎ (rose × ((text : List ℕ) × (past : List Event) × IsFurther run spelling history past text
+    × All (λ mark. mark ≤ length past) marks × (texts ≡ before ++ text ∷ [])))
 
 -- the event after a prefix is the stop for want of memory
 abbrev pub IsWantAfter : List Event → List Event → Type 0
@@ -165,4 +166,4 @@ WithWanted run spelling history marks texts =
 -- the texts by which the store's story grew: the saves, and at most two further ones
 abbrev pub IsStory : Fixed → Spelling → Type 0 → List Event → List ℕ → List (List ℕ) → Type 0
 IsStory run spelling rose history marks texts =
-    (before : List (List ℕ)) × WithWanted run spelling history marks before × EndsStory run spelling rose history before texts
+    (before : List (List ℕ)) × WithWanted run spelling history marks before × EndsStory run spelling rose history marks before texts

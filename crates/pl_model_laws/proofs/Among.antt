@@ -1,7 +1,7 @@
 -- What is among a list.
 use Rattle.std.proofs.Common.{◌≡◌, ◌==◌, Bool, true, false, not, ◌||◌, cond, List, [], ◌∷◌, ◌++◌, filter, find, map, length, Option, Some, None, is_some, refl, sym, ◌∙◌, ap, subst, inl, inr, ◌⊎◌, arith, slice_get, if◌then◌else◌}
 use Rattle.std.specs.List.{list_any}
-use Rattle.pl_model.specs.Requests.{option_list}
+use Rattle.pl_state.specs.References.{option_list}
 use Rattle.pl_model_laws.proofs.Growing.{equal_numbers, or_true}
 use Rattle.pl_model_laws.proofs.Staying.{some_same}
 

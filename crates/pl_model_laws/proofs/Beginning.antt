@@ -15,13 +15,13 @@ use Rattle.pl_events.specs.declared.event.What.TheVariants.{Answered, Begun, Kep
 use Rattle.pl_events.specs.declared.operation.Op.{Op}
 use Rattle.pl_decide.specs.declared.problem.Problem.{Problem}
 use Rattle.pl_model.specs.Run.{Fixed, Spelling, is_refresh}
-use Rattle.pl_model.specs.Tickets.{Closed, Errand, answers_of, begun_of, errand_at, errand_of, is_open, next_ticket, same_op}
+use Rattle.pl_model.specs.Tickets.{Closed, Errand, answers_of, begun_of, closed_by, errand_at, errand_of, is_open, next_ticket, same_op}
 use Rattle.pl_model.specs.Recording.{fresh_of, recorded_of}
-use Rattle.pl_model.specs.Claims.{Decided, first_some, id_of_row, usable_id}
+use Rattle.pl_model.specs.Claims.{Decided, id_of_row, usable_id}
 use Rattle.pl_model.specs.Decisions.{decided_of}
 use Rattle.pl_model.specs.Known.{Known, claim_row, decided_goal, goal_at, provider_id}
 use Rattle.pl_model.specs.Rows.{is_left, is_marked}
-use Rattle.pl_model.specs.Entries.{Result, entry_of, goal_entry, new_entries, old_entries, old_row, recorded_entry, recording_of, reference_to, result_answered, result_kept, told_outputs, with_outputs}
+use Rattle.pl_model.specs.Entries.{Result, entry_of, goal_entry, new_entries, old_entries, old_row, recorded_entry, recording_of, reference_to, result_answered, result_by, result_from, result_kept, told_outputs, with_outputs}
 use Rattle.pl_model.specs.State.{Opened, base_pending, entries_now, is_answered, opened_of, own_pending, pending_for, refreshed_entries, state_of, was_answered}
 use Rattle.pl_model.specs.History.{known_of}
 use Rattle.pl_model.specs.Legal.{IsLegal, MayHappen, is_seats}
@@ -39,14 +39,6 @@ filter_map_same f g same [] = refl
 filter_map_same {Y = Y} f g same (x ∷ xs) =
     ap (λ (o : Option Y). cons_option o (filter_map f xs)) (same x)
     ∙ ap (λ (ys : List Y). cons_option (g x) ys) (filter_map_same f g same xs)
-
--- so is the first that is found
-first_some_same : {X Y : Type 0} (f g : X → Option Y) → ((x : X) → f x ≡ g x) → (xs : List X)
-    → first_some f xs ≡ first_some g xs
-first_some_same f g same [] = refl
-first_some_same {Y = Y} f g same (x ∷ xs) =
-    ap (λ (o : Option Y). option_or o (first_some f xs)) (same x)
-    ∙ ap (λ (o : Option Y). option_or (g x) o) (first_some_same f g same xs)
 
 -- ---- what is told of with a begin more
 
@@ -98,13 +90,18 @@ module _ (known : Known) (seat ticket lane : ℕ) (about : Op) (problems : List 
   recording_same : (number : ℕ) (goal : Goal) (one : Decided)
       → recording_of later number goal one ≡ recording_of known number goal one
   recording_same number goal one =
-      ap (λ (kept : Option Result). option_or kept (first_some (result_answered known number one) known.answers))
-      (first_some_same (λ event. result_kept later number goal one event.what) (λ event. result_kept known number goal one event.what)
-      (λ event. by event.what) known.history)
+      or_none (result_from later number goal one known.history) ∙ from_same known.history
     where
-      by : (what : What) → result_kept later number goal one what ≡ result_kept known number goal one what
-      by (Kept kept fresh) = refl
-      by _ = refl
+      kept_same : (what : What) → result_kept later number goal one what ≡ result_kept known number goal one what
+      kept_same (Kept kept fresh) = refl
+      kept_same _ = refl
+
+      from_same : (past : List Event) → result_from later number goal one past ≡ result_from known number goal one past
+      from_same [] = refl
+      from_same (event ∷ past) =
+          ap (λ (o : Option Result). option_or o (result_by later number goal one past event.what)) (from_same past)
+          ∙ ap (λ (o : Option Result). option_or (result_from known number goal one past)
+          (option_or o (option_and_then (result_answered known number one) (closed_by past event.what)))) (kept_same event.what)
 
   entry_same : (number : ℕ) → entry_of later number ≡ entry_of known number
   entry_same number = by (goal_at known number) (decided_goal known number)

@@ -15,7 +15,7 @@ use Rattle.pl_model.specs.Decisions.{decided_of}
 use Rattle.pl_model.specs.History.{asked_after, goals_after, known_of}
 use Rattle.pl_model.specs.Known.{Known, decided_goal, has_problem, known_by}
 use Rattle.pl_model.specs.Problems.{at_position, decision_problems, end_problems, ends_well, made_problems, newly_decided, own_problem, problems_at, provider_problems, request_problem}
-use Rattle.pl_model.specs.Requests.{option_list}
+use Rattle.pl_state.specs.References.{option_list}
 use Rattle.pl_model_laws.proofs.Growing.{Grown, answers_by, decided_as, decided_grown, grown_goals, length_added, numbered_below}
 use Rattle.pl_model_laws.proofs.Pairs.{Each, each-reverse}
 use Rattle.pl_model_laws.proofs.Staying.{some_same}

@@ -1,5 +1,5 @@
 -- Nothing waits in a circle: goal by goal, and row by row from the last one, what is left is due.
-use Rattle.std.proofs.Common.{◌≡◌, ℕ, zero, suc, ◌+◌, ◌<◌, ◌≤◌, ◌==◌, Bool, true, false, not, ◌&&◌, ◌||◌, if◌then◌else◌, List, [], length, option_and_then, option_map, slice_get, Option, Some, None, is_none, is_some, refl, sym, ◌∙◌, ap, subst, inl, inr, ◌⊎◌, arith}
+use Rattle.std.proofs.Common.{◌≡◌, ℕ, zero, suc, ◌+◌, ◌<◌, ◌≤◌, ◌==◌, Bool, true, false, not, ◌&&◌, ◌||◌, if◌then◌else◌, List, [], length, nat_lt, option_and_then, option_map, slice_get, Option, Some, None, is_none, is_some, refl, sym, ◌∙◌, ap, subst, inl, inr, ◌⊎◌, arith}
 use Rattle.std.proofs.lemmas.Bool.Decides.{nat_tests}
 use Rattle.std.proofs.lemmas.Option.{slice_get_within}
 use Rattle.std.specs.List.{list_all, list_any}
@@ -17,23 +17,25 @@ use Rattle.pl_events.specs.declared.operation.Subject.TheVariants as subject
 use Rattle.pl_events.specs.declared.reply.Reply.{Reply}
 use Rattle.pl_decide.specs.declared.decision.Decision.{Decision}
 use Rattle.pl_decide.specs.declared.decision.Decision.TheVariants as decision
-use Rattle.pl_model.specs.Run.{Fixed, Pairs, is_destroy, is_preview, is_refresh, rows_of}
+use Rattle.pl_model.specs.Run.{Fixed, Pairs, Spelling, is_destroy, is_preview, is_refresh, rows_of}
 use Rattle.pl_model.specs.Asked.{call_of}
-use Rattle.pl_model.specs.Claims.{Decided, chain_of_claim, chain_of_goal, is_claimed, is_delete_first, is_row, numbered}
+use Rattle.pl_model.specs.Claims.{Decided, chain_of_claim, chain_of_goal, claimer_of, is_claimed, is_create_first, is_delete_first, is_row, numbered}
 use Rattle.pl_model.specs.Decisions.{Turn, change_at, claim_at, decided_by, decided_of, checked_at, checked_in, decided_at, diff_at, diffed_in, is_provider_unknown, is_refused, needs_check, number_at, turn_in, wants_diff}
 use Rattle.pl_model.specs.Due.{asks_check, asks_config, asks_diff, at_turn, for_decided, is_asked, is_carried_out, is_drop_ready, is_keep_ready, is_placed, is_reading, is_removable, is_wanted_op, keeps_goal, op_of_goal, operations_of, provider_recorded, provider_stands, references_recorded, sends_goal, source_of_op, urn_is_free, way_is_free, none_or}
 use Rattle.pl_model.specs.History.{known_of}
 use Rattle.pl_model.specs.Known.{Known, all_recorded, decided_goal, goal_at, host_ended, is_over, is_recorded, next_turn}
 use Rattle.pl_model.specs.Problems.{lacks_provider}
-use Rattle.pl_model.specs.Recording.{goal_of_op, has_number, removed_of}
-use Rattle.pl_model.specs.Rows.{has_dependents, is_doomed, is_left, is_marked, is_sent, is_target, row_at, source_of_goal, source_of_provider, source_of_row, takes_along}
+use Rattle.pl_model.specs.Recording.{goal_of_op, has_number, only_if, removed_of}
+use Rattle.pl_model.specs.Rows.{has_dependents, is_deleted_first, is_doomed, is_left, is_marked, is_sent, is_taken_out, is_taken_over, is_target, row_at, source_of_goal, source_of_provider, source_of_row, stands_beside, takes_along, was_removed}
 use Rattle.pl_model.specs.Tickets.{Closed, reply_to, same_op, was_begun, was_configured}
 use Rattle.pl_model_laws.specs.Laws.{is_configure}
 use Rattle.pl_model_laws.specs.Quiet.{IsAllDone, tells_success}
 use Rattle.pl_model_laws.proofs.Chains.{chain-closed, chain-of-claim, chained-kept}
+use Rattle.pl_model_laws.proofs.Claiming.{claims-allowed, passing_number, was-made}
 use Rattle.pl_model_laws.proofs.Growing.{decided_as, numbered_below, or_true, run_of, same_number}
-use Rattle.pl_model_laws.proofs.Leaving.{claim-gone, left_parts}
+use Rattle.pl_model_laws.proofs.Leaving.{claim-gone, claimer_is, known-apart, left_made, left_parts}
 use Rattle.pl_model_laws.proofs.Once.{and_left, and_right, history_of}
+use Rattle.pl_model_laws.proofs.Removing.{later-now, never-marked}
 use Rattle.pl_model_laws.proofs.Standing.{answers_as}
 use Rattle.pl_model_laws.proofs.Staying.{same_op_self}
 use Rattle.pl_model_laws.proofs.Waiting.{above, all_in_range, all_numbers, any_numbered, at_last, carried, check_listed, checked_well, choose_some, claimed_by, config_begun, delete_listed, diff_listed, diff_provided, diffed_well, doomed_left, either, exact, false_or, inputs_well, kind_asked, kind_goal, kind_listed, kind_source, last_or, left_low, mapped_some, none_in_range, numbered_at, refers_above, sends_listed, some_named, true_or, waiting}
@@ -60,7 +62,7 @@ pub record IsStill (run : Fixed) (history : List Event) : Type 0 where
   pub named : (n : ℕ) (goal : Goal) → goal_at (known_of run history) n ≡ Some goal → is_provided goal ≡ true
       → (m : ℕ) × (goal.provider ≡ Some m) × (m < n)
 
-module _ (run : Fixed) (history : List Event) (still : IsStill run history) where
+module _ (run : Fixed) (spelling : Spelling) (history : List Event) (still : IsStill run history) where
   abbrev known : Known
   known = known_of run history
 
@@ -209,7 +211,7 @@ module _ (run : Fixed) (history : List Event) (still : IsStill run history) wher
   module _ (n : ℕ) (goal : Goal) (one : Decided) (stands : goal_at known n ≡ Some goal) (decided : decided_goal known n ≡ Some one)
       (below : (m : ℕ) → m < n → is_recorded known m ≡ true)
       (free : (is_preview known.run.mode || urn_is_free known goal one) ≡ true) (provider : provider_stands known n goal ≡ true)
-      (way : (about : Op) → op_of_goal known n goal one ≡ Some about → way_is_free known one ≡ true) where
+      (way : (about : Op) → is_recorded known n ≡ false → op_of_goal known n goal one ≡ Some about → way_is_free known one ≡ true) where
     -- it can be recorded
     placed_so : is_recorded known n ≡ false → is_placed known n goal one ≡ true
     placed_so missing = rw (still.unrefused n one decided) (rw missing (rw (still.ready_references n goal below stands) free))
@@ -228,7 +230,7 @@ module _ (run : Fixed) (history : List Event) (still : IsStill run history) wher
     -- what its operation asks
     sends_so : (about : Op) → is_recorded known n ≡ false → op_of_goal known n goal one ≡ Some about → for_decided known n (sends_goal known n about) ≡ true
     sends_so about missing needs =
-        found_so (sends_goal known n about) (rw (placed_so missing) (rw needs (rw (same_op_self about) (way about needs))))
+        found_so (sends_goal known n about) (rw (placed_so missing) (rw needs (rw (same_op_self about) (way about missing needs))))
 
     -- which was begun
     sent_so : (about : Op) → is_recorded known n ≡ false → op_of_goal known n goal one ≡ Some about → was_begun history about ≡ true
@@ -285,7 +287,7 @@ module _ (run : Fixed) (history : List Event) (still : IsStill run history) wher
         let one = decided_there n goal stands below in
         let free : (is_preview known.run.mode || urn_is_free known goal one.0) ≡ true = rw preview refl in
         let provider : provider_stands known n goal ≡ true = rw preview (rw (or_true (not (is_provider_goal goal))) refl) in
-        recorded_so n goal one.0 stands one.1 below free provider (λ about needs. foreseen_way n goal one.0 about needs)
+        recorded_so n goal one.0 stands one.1 below free provider (λ about missing needs. foreseen_way n goal one.0 about needs)
 
     -- so all of the first goals are
     foreseen_below : (n : ℕ) → n ≤ length known.goals → (m : ℕ) → m < n → is_recorded known m ≡ true
@@ -310,7 +312,7 @@ module _ (run : Fixed) (history : List Event) (still : IsStill run history) wher
       (no_drop : (row : ℕ) → is_drop_ready known row ≡ true → row < length (rows_of run) → ⊥)
       (taken_provided : (n : ℕ) (one : Decided) (row : ℕ) (entry : Entry) → decided_goal known n ≡ Some one
       → is_delete_first one.decision ≡ true → takes_along known row one ≡ true → row_at known row ≡ Some entry
-      → lacks_provider entry ≡ false)
+      → is_left known row ≡ true → lacks_provider known row ≡ false)
       (urn_ready : (n : ℕ) (goal : Goal) (one : Decided) → goal_at known n ≡ Some goal → decided_goal known n ≡ Some one
       → ((m : ℕ) → m < n → is_recorded known m ≡ true)
       → ((m : ℕ) (before : Decided) (row : ℕ) → m < n → decided_goal known m ≡ Some before
@@ -330,10 +332,10 @@ module _ (run : Fixed) (history : List Event) (still : IsStill run history) wher
     base_row : (row : ℕ) (entry : Entry) → slice_get (rows_of run) row ≡ Some entry → row_at known row ≡ Some entry
     base_row row entry is = ap (λ (fixed : Fixed). slice_get (rows_of fixed) row) (run_of run history) ∙ is
 
-    -- a row that is left and is to go, on which no row depends, does not stay
-    row_goes : (row : ℕ) (entry : Entry) → slice_get (rows_of run) row ≡ Some entry → is_left known row ≡ true → is_doomed known row ≡ true
-        → has_dependents known row ≡ false → lacks_provider entry ≡ false → ⊥
-    row_goes row entry here left doomed free provided = by (is_sent entry) refl
+    -- a row that is to go, on which no row depends, was deleted or dropped
+    row_goes : (row : ℕ) (entry : Entry) → slice_get (rows_of run) row ≡ Some entry → is_doomed known row ≡ true
+        → has_dependents known row ≡ false → lacks_provider known row ≡ false → was_removed known row ≡ true
+    row_goes row entry here doomed free provided = true_or (was_removed known row) (λ unremoved. by unremoved (is_sent known row) refl)
       where
         at : row_at known row ≡ Some entry
         at = base_row row entry here
@@ -344,28 +346,56 @@ module _ (run : Fixed) (history : List Event) (still : IsStill run history) wher
         low_too : row < length (rows_of known.run)
         low_too = subst (λ (fixed : Fixed). row < length (rows_of fixed)) (sym (run_of run history)) low
 
-        removable : is_removable known row ≡ true
-        removable =
+        removable : was_removed known row ≡ false → is_removable known row ≡ true
+        removable unremoved =
             let live : is_preview known.run.mode ≡ false = ap (λ (fixed : Fixed). is_preview fixed.mode) (run_of run history) ∙ real in
-            rw doomed (rw free (rw live refl))
+            rw doomed (rw unremoved (rw free (rw live refl)))
 
-        begun : is_sent entry ≡ true → was_begun history (op.Delete (subject.Row row)) ≡ true
-        begun sent =
-            let some : is_none entry.provider ≡ false = subst (λ (b : Bool). (b && is_none entry.provider) ≡ false) sent provided in
-            let own = provider_row row entry here some in
+        named : is_sent known row ≡ true → is_none entry.provider ≡ false
+        named sent =
+            ap (λ (o : Option Entry). some_passes (λ (it : Entry). is_none it.provider) o) (sym at)
+            ∙ subst (λ (b : Bool). (b && some_passes (λ (it : Entry). is_none it.provider) (row_at known row)) ≡ false) sent provided
+
+        begun : was_removed known row ≡ false → is_sent known row ≡ true → was_begun history (op.Delete (subject.Row row)) ≡ true
+        begun unremoved sent =
+            let own = provider_row row entry here (named sent) in
             let from : source_of_row known row ≡ Some (source_of_provider known own.0) =
             ap (λ (fixed : Fixed). option_map (source_of_provider known) (provider_row_of (rows_of fixed) row)) (run_of run history)
             ∙ ap (λ (o : Option ℕ). option_map (source_of_provider known) o) own.1 in
             begun_so (op.Delete (subject.Row row)) (source_of_provider known own.0) from (delete_listed known row low_too)
-            (rw removable (rw at sent))
+            (both (is_removable known row) (is_sent known row) (removable unremoved) sent)
 
-        by : (b : Bool) → is_sent entry ≡ b → ⊥
-        by false kept = no_drop row (rw removable (rw at (rw kept refl))) low
-        by true sent =
-            let removed : has_number (removed_of known.history) row ≡ true =
-            subst (λ (events : List Event). has_number (removed_of events) row ≡ true) (sym (history_of run history)) (row_done row (begun sent)) in
-            let parts = left_parts _ (has_number (removed_of known.history) row) _ left in
-            let e : true ≡ false = sym removed ∙ parts.1 in cc
+        by : was_removed known row ≡ false → (b : Bool) → is_sent known row ≡ b → ⊥
+        by unremoved false kept =
+            no_drop row (both (is_removable known row) (not (is_sent known row)) (removable unremoved) (ap (λ (b : Bool). not b) kept)) low
+        by unremoved true sent =
+            let removed : was_removed known row ≡ true =
+            subst (λ (events : List Event). has_number (removed_of events) row ≡ true) (sym (history_of run history))
+            (row_done row (begun unremoved sent)) in
+            let e : true ≡ false = sym removed ∙ unremoved in cc
+
+    -- a row that was deleted or dropped is left only where it is held for a goal that is not recorded
+    held_so : (row : ℕ) → was_removed known row ≡ true → is_left known row ≡ true → (m : ℕ) × (before : Decided)
+        × (decided_goal known m ≡ Some before) × (is_row before.claim row ≡ true) × (is_delete_first before.decision ≡ true)
+    held_so row removed left =
+        let parts = left_parts (nat_lt row (length (rows_of known.run))) (is_taken_out known row) (is_taken_over known row) left in
+        let first : is_deleted_first known row ≡ true =
+        true_or (is_deleted_first known row) (λ none.
+        let out : is_taken_out known row ≡ true = both (was_removed known row) (not (is_deleted_first known row)) removed (ap (λ (b : Bool). not b) none) in
+        let e : true ≡ false = sym out ∙ parts.1 in cc) in
+        let found = passing_number (λ (before : Decided). is_delete_first before.decision && is_row before.claim row) known.decided first in
+        (found.0, found.1, found.2, and_right (is_delete_first found.1.decision) _ found.3, and_left (is_delete_first found.1.decision) _ found.3)
+
+    -- a held row is not marked
+    held_unmarked : (row m : ℕ) (before : Decided) → decided_goal known m ≡ Some before → is_row before.claim row ≡ true
+        → is_delete_first before.decision ≡ true → is_marked known row ≡ false
+    held_unmarked row m before decided claims first =
+        never-marked run spelling history m row before decided claims (first_only before.decision first) history (later-now run history)
+      where
+        first_only : (choice : Decision) → is_delete_first choice ≡ true → is_create_first choice ≡ false
+        first_only (decision.Replace true) h = absurd (let e : false ≡ true = h in cc)
+        first_only (decision.Replace false) h = refl
+        first_only _ h = absurd (let e : false ≡ true = h in cc)
 
     -- whether a row is the claim of what is decided, or in its chain
     abbrev IsTaken : Decided → ℕ → Type 0
@@ -399,62 +429,92 @@ module _ (run : Fixed) (history : List Event) (still : IsStill run history) wher
           let any : list_any (takes_along known row) known.decided ≡ true = any_numbered (takes_along known row) known.decided n one decided (takes_so row taken left) in
           rw left (rw reads (rw up (rw any (or_true (is_over known)))))
 
-      -- a row of them on which no later one of them is left does not stay
-      one_gone : (row : ℕ) → IsTaken one row → ((later : ℕ) → row < later → IsTaken one later → is_left known later ≡ false) → is_left known row ≡ false
-      one_gone row taken later_gone = false_or (is_left known row) (λ left.
+      chain_is : (own : ℕ) → one.claim ≡ Some own → chain_of_goal run one ≡ chain_of (rows_of run) own
+      chain_is own claim =
+          ap (λ (b : Bool). if b then chain_of_claim run one.claim else []) first ∙ ap (λ (o : Option ℕ). chain_of_claim run o) claim
+
+      chain_more : (row later : ℕ) → refers_to (rows_of run) later row ≡ true → later < length (rows_of run) → IsTaken one row
+          → has_number (chain_of_goal run one) later ≡ true
+      chain_more row later refers low (inl claims) =
+          ap (λ (places : List ℕ). has_number places later) (chain_is row (row_is one.claim row claims))
+          ∙ chain-closed (rows_of run) row later row refers low (inl refl)
+      chain_more row later refers low (inr chained) =
+          let (was_first, own, claim, within) = chain-of-claim run one row chained in
+          ap (λ (places : List ℕ). has_number places later) (chain_is own claim)
+          ∙ chain-closed (rows_of run) own later row refers low (inr within)
+
+      -- a row of them that is left was deleted or dropped, where no later row of the chain is left
+      one_removed : (row : ℕ) → IsTaken one row → ((later : ℕ) → row < later → has_number (chain_of_goal run one) later ≡ true → is_left known later ≡ false)
+          → is_left known row ≡ true → was_removed known row ≡ true
+      one_removed row taken later_gone left =
           let there = some_at (rows_of run) row (left_low run history row left) in
-          row_goes row there.0 there.1 left (doomed_so row taken left) free
-          (taken_provided n one row there.0 decided first (takes_so row taken left) (base_row row there.0 there.1)))
+          row_goes row there.0 there.1 (doomed_so row taken left) free
+          (taken_provided n one row there.0 decided first (takes_so row taken left) (base_row row there.0 there.1) left)
         where
-          chain_is : (own : ℕ) → one.claim ≡ Some own → chain_of_goal run one ≡ chain_of (rows_of run) own
-          chain_is own claim =
-              ap (λ (b : Bool). if b then chain_of_claim run one.claim else []) first ∙ ap (λ (o : Option ℕ). chain_of_claim run o) claim
-
-          chain_more : (later : ℕ) → refers_to (rows_of run) later row ≡ true → later < length (rows_of run) → IsTaken one row
-              → has_number (chain_of_goal run one) later ≡ true
-          chain_more later refers low (inl claims) =
-              ap (λ (places : List ℕ). has_number places later) (chain_is row (row_is one.claim row claims))
-              ∙ chain-closed (rows_of run) row later row refers low (inl refl)
-          chain_more later refers low (inr chained) =
-              let (was_first, own, claim, within) = chain-of-claim run one row chained in
-              ap (λ (places : List ℕ). has_number places later) (chain_is own claim)
-              ∙ chain-closed (rows_of run) own later row refers low (inr within)
-
           further : (later : ℕ) → (refers_to (rows_of run) later row && is_left known later) ≡ true → ⊥
           further later h =
               let refers = and_left (refers_to (rows_of run) later row) (is_left known later) h in
               let stays = and_right (refers_to (rows_of run) later row) (is_left known later) h in
               let above : row < later = refers_above (rows_of run) later row refers in
-              let gone : is_left known later ≡ false = later_gone later above (inr (chain_more later refers (left_low run history later stays) taken)) in
+              let gone : is_left known later ≡ false = later_gone later above (chain_more row later refers (left_low run history later stays) taken) in
               let e : true ≡ false = sym stays ∙ gone in cc
 
           free : has_dependents known row ≡ false
           free = none_in_range (λ later. refers_to (rows_of known.run) later row && is_left known later) 0 (length (rows_of known.run))
               (λ later low high h. further later (subst (λ (fixed : Fixed). (refers_to (rows_of fixed) later row && is_left known later) ≡ true) (run_of run history) h))
 
-      -- from the last row on none of them is left
-      gone_from : (count row : ℕ) → length (rows_of run) ≤ row + count → IsTaken one row → is_left known row ≡ false
-      gone_from zero row end taken = false_or (is_left known row) (λ left. let low = left_low run history row left in omega arith)
-      gone_from (suc count) row end taken =
-          one_gone row taken (λ later above more. gone_from count later (omega arith) more)
+      -- a row of the chain on which no later one of it is left does not stay: it is held for no goal, since the goals
+      -- before, which alone may claim it, are recorded
+      chain_one : (row : ℕ) → has_number (chain_of_goal run one) row ≡ true
+          → ((later : ℕ) → row < later → has_number (chain_of_goal run one) later ≡ true → is_left known later ≡ false) → is_left known row ≡ false
+      chain_one row chained later_gone = false_or (is_left known row) (λ left.
+          let (m, before, its, claims, holds) = held_so row (one_removed row (inr chained) later_gone left) left in
+          let recorded = below.recorded m (chained-kept run history n m row one before decided chained its claims) in
+          let e : true ≡ false = sym (claim-gone run history m before row its claims recorded left) ∙ held_unmarked row m before its claims holds in cc)
 
-      all_gone : (row : ℕ) → IsTaken one row → is_left known row ≡ false
-      all_gone row taken = gone_from (length (rows_of run)) row (omega arith) taken
+      -- from the last row on none of the chain is left
+      gone_from : (count row : ℕ) → length (rows_of run) ≤ row + count → has_number (chain_of_goal run one) row ≡ true → is_left known row ≡ false
+      gone_from zero row end chained = false_or (is_left known row) (λ left. let low = left_low run history row left in omega arith)
+      gone_from (suc count) row end chained =
+          chain_one row chained (λ later above more. gone_from count later (omega arith) more)
+
+      chain_gone : (row : ℕ) → has_number (chain_of_goal run one) row ≡ true → is_left known row ≡ false
+      chain_gone row chained = gone_from (length (rows_of run)) row (omega arith) chained
+
+      -- until the goal is recorded its claim is left, or it was deleted or dropped
+      claim_removed : is_recorded known n ≡ false → (row : ℕ) → is_row one.claim row ≡ true → was_removed known row ≡ true
+      claim_removed missing row claims = true_or (was_removed known row) (λ unremoved.
+          let removed = one_removed row (inl claims) (λ later above more. chain_gone later more) (claim_left missing row claims unremoved) in
+          let e : true ≡ false = sym removed ∙ unremoved in cc)
+        where
+          claim_left : is_recorded known n ≡ false → (row : ℕ) → is_row one.claim row ≡ true → was_removed known row ≡ false → is_left known row ≡ true
+          claim_left missing row claims unremoved =
+              let allowed = claims-allowed run history n one row (was-made run history n one decided) claims in
+              let inside : row < length (rows_of run) = slice_get_within (rows_of run) row allowed.entry allowed.at in
+              let low : nat_lt row (length (rows_of run)) ≡ true = grind (arith, nat_tests) in
+              let claimer : claimer_of known.decided row ≡ Some n =
+              claimer_is run known.decided n row one (known-apart run history) decided claims in
+              left_made (nat_lt row (length (rows_of known.run))) (is_taken_out known row) (is_taken_over known row)
+              (ap (λ (fixed : Fixed). nat_lt row (length (rows_of fixed))) (run_of run history) ∙ low)
+              (ap (λ (b : Bool). b && not (is_deleted_first known row)) unremoved)
+              (ap (λ (o : Option ℕ). some_passes (λ goal. not (stands_beside known goal))
+              (option_and_then (λ (goal : ℕ). only_if (is_recorded known goal) (Some goal)) o)) claimer
+              ∙ ap (λ (b : Bool). some_passes (λ goal. not (stands_beside known goal)) (only_if b (Some n))) missing)
 
     -- ---- its way is free
 
     module _ (n : ℕ) (goal : Goal) (one : Decided) (stands : goal_at known n ≡ Some goal) (decided : decided_goal known n ≡ Some one) (below : Below n) where
-      claim_gone_so : is_delete_first one.decision ≡ true → none_or (λ row. not (is_left known row)) one.claim ≡ true
-      claim_gone_so first = by one.claim refl
+      claim_gone_so : is_recorded known n ≡ false → is_delete_first one.decision ≡ true → none_or (was_removed known) one.claim ≡ true
+      claim_gone_so missing first = by one.claim refl
         where
-          by : (o : Option ℕ) → one.claim ≡ o → none_or (λ row. not (is_left known row)) o ≡ true
+          by : (o : Option ℕ) → one.claim ≡ o → none_or (was_removed known) o ≡ true
           by None is = refl
           by (Some row) is =
               let claims : is_row one.claim row ≡ true = ap (λ (o : Option ℕ). is_row o row) is ∙ same_number row in
-              ap (λ (b : Bool). not b) (all_gone n goal one stands decided first below row (inl claims))
+              claim_removed n goal one stands decided first below missing row claims
 
-      way_so : way_is_free known one ≡ true
-      way_so = by (is_delete_first one.decision) refl
+      way_so : is_recorded known n ≡ false → way_is_free known one ≡ true
+      way_so missing = by (is_delete_first one.decision) refl
         where
           by : (b : Bool) → is_delete_first one.decision ≡ b → way_is_free known one ≡ true
           by false is = rw is refl
@@ -462,8 +522,8 @@ module _ (run : Fixed) (history : List Event) (still : IsStill run history) wher
               let chain : list_all (λ row. not (is_left known row)) (chain_of_goal known.run one) ≡ true =
               subst (λ (fixed : Fixed). list_all (λ row. not (is_left known row)) (chain_of_goal fixed one) ≡ true) (sym (run_of run history))
               (all_numbers (λ row. not (is_left known row)) (chain_of_goal run one)
-              (λ row chained. ap (λ (b : Bool). not b) (all_gone n goal one stands decided is below row (inr chained)))) in
-              either (not (is_delete_first one.decision)) _ (both (none_or (λ row. not (is_left known row)) one.claim) _ (claim_gone_so is) chain)
+              (λ row chained. ap (λ (b : Bool). not b) (chain_gone n goal one stands decided is below row chained))) in
+              either (not (is_delete_first one.decision)) _ (both (none_or (was_removed known) one.claim) _ (claim_gone_so missing is) chain)
 
       -- a provider is configured, as its inputs were checked
       provider_so : provider_stands known n goal ≡ true
@@ -481,7 +541,7 @@ module _ (run : Fixed) (history : List Event) (still : IsStill run history) wher
       done_so : is_recorded known n ≡ true
       done_so =
           let free : urn_is_free known goal one ≡ true = urn_ready n goal one stands decided below.recorded below.gone in
-          recorded_so n goal one stands decided below.recorded (either (is_preview known.run.mode) _ free) provider_so (λ about needs. way_so)
+          recorded_so n goal one stands decided below.recorded (either (is_preview known.run.mode) _ free) provider_so (λ about missing needs. way_so missing)
 
     -- ---- all of them
 
@@ -498,7 +558,7 @@ module _ (run : Fixed) (history : List Event) (still : IsStill run history) wher
         gone_last m before row (inl earlier) its chained = below.gone m before row earlier its chained
         gone_last m before row (inr same) its chained =
             let here : decided_goal known n ≡ Some before = subst (λ (k : ℕ). decided_goal known k ≡ Some before) same its in
-            all_gone n goal before stands here (chain-of-claim run before row chained).0 below row (inr chained)
+            chain_gone n goal before stands here (chain-of-claim run before row chained).0 below row chained
 
     below_all : (n : ℕ) → n ≤ length known.goals → Below n
     below_all zero low = record { recorded = λ m below. absurd (omega arith); gone = λ m one row below decided chained. absurd (omega arith) }
@@ -513,7 +573,7 @@ module _ (run : Fixed) (history : List Event) (still : IsStill run history) wher
     -- ---- and then the rows
 
     module _ (ended : host_ended known ≡ true)
-        (end_provided : is_over known ≡ true → (row : ℕ) (entry : Entry) → is_doomed known row ≡ true → row_at known row ≡ Some entry → lacks_provider entry ≡ false)
+        (end_provided : is_over known ≡ true → (row : ℕ) (entry : Entry) → is_doomed known row ≡ true → row_at known row ≡ Some entry → lacks_provider known row ≡ false)
         (end_target : is_over known ≡ true → (later earlier : ℕ) → is_left known later ≡ true → refers_to (rows_of run) later earlier ≡ true
         → is_doomed known earlier ≡ true → is_target known later ≡ true) where
       over : is_over known ≡ true
@@ -523,8 +583,16 @@ module _ (run : Fixed) (history : List Event) (still : IsStill run history) wher
       one_done row later_done = false_or (is_doomed known row) (λ doomed.
           let left = doomed_left known row doomed in
           let there = some_at (rows_of run) row (left_low run history row left) in
-          row_goes row there.0 there.1 left doomed (free doomed) (end_provided over row there.0 doomed (base_row row there.0 there.1)))
+          let removed = row_goes row there.0 there.1 doomed (free doomed) (end_provided over row there.0 doomed (base_row row there.0 there.1)) in
+          let (m, before, its, claims, holds) = held_so row removed left in
+          let recorded = recorded_all m before its in
+          let e : true ≡ false = sym (claim-gone run history m before row its claims recorded left) ∙ held_unmarked row m before its claims holds in cc)
         where
+          recorded_all : (m : ℕ) (before : Decided) → decided_goal known m ≡ Some before → is_recorded known m ≡ true
+          recorded_all m before its =
+              let made = was-made run history m before its in
+              (below_all (length known.goals) (omega arith)).recorded m (numbered_below known.goals m made.goal made.stands)
+
           further : is_doomed known row ≡ true → (later : ℕ) → (refers_to (rows_of run) later row && is_left known later) ≡ true → ⊥
           further doomed later h =
               let refers = and_left (refers_to (rows_of run) later row) (is_left known later) h in

@@ -1,16 +1,16 @@
 -- How a decision was made: of which goal, after which others, and over which row.
-use Rattle.std.proofs.Common.{◌≡◌, ℕ, suc, ◌+◌, ◌==◌, ◌<◌, Bool, true, false, not, ◌&&◌, ◌||◌, if◌then◌else◌, cond, List, [], ◌∷◌, length, Option, Some, None, find, refl, sym, ◌∙◌, ap, subst, arith, slice_get, option_map, option_and_then}
+use Rattle.std.proofs.Common.{◌≡◌, ℕ, suc, ◌+◌, ◌==◌, ◌<◌, Bool, true, false, not, ◌&&◌, ◌||◌, if◌then◌else◌, cond, List, [], ◌∷◌, length, Option, Some, None, is_some, find, refl, sym, ◌∙◌, ap, subst, arith, slice_get, option_map, option_and_then}
 use Rattle.std.proofs.lemmas.Bool.Decides.{nat_tests}
 use Rattle.std.specs.Bool.{beq}
 use Rattle.std.specs.List.{cons_option, enumerate_from, list_any}
 use Rattle.std.specs.Option.{option_or}
 use Rattle.pl_state.specs.Kinds.{is_importing_goal, is_provided, is_provider_goal, is_provider_row, is_reading_goal, kin_of}
-use Rattle.pl_state.specs.Sound.{has_urn}
+use Rattle.pl_state.specs.References.{has_urn}
 use Rattle.pl_state.specs.declared.entry.Entry.{Entry}
 use Rattle.pl_state.specs.declared.goal.Diffed.{Diffed}
 use Rattle.pl_state.specs.declared.goal.Goal.{Goal}
 use Rattle.pl_events.specs.declared.event.Event.{Event}
-use Rattle.pl_decide.specs.Table.{custom_differs, decide, decide_kin, decide_over, decide_provided, decide_reading, decide_unprovided, is_conflict, is_managed}
+use Rattle.pl_decide.specs.Table.{custom_differs, decide, decide_kin, decide_over, decide_provided, decide_reading, decide_unprovided, is_conflict}
 use Rattle.pl_decide.specs.declared.decision.Decision.{Decision}
 use Rattle.pl_decide.specs.declared.decision.Decision.TheVariants as decision
 use Rattle.pl_decide.specs.declared.decision.ProviderChange.{ProviderChange}
@@ -287,17 +287,10 @@ claims-allowed run history number one row made claims =
     first_claims run made.before made.goal row (made.goal.urn ∷ made.goal.aliases)
     (ap (λ (it : Decided). it.claim) parts.2 ∙ claim_is one.claim row claims)
 
--- ---- providers are never replaced
+-- ---- what has no provider is never replaced
 
-and_false : (a : Bool) → (a && false) ≡ false
-and_false true = refl
-and_false false = refl
-
-module _ (goal : Goal) (change : ProviderChange) (checked : Pairs) (diff : Option Diffed) (provider : is_provider_goal goal ≡ true) where
-  unprovided : is_provided goal ≡ false
-  unprovided = ap (λ (b : Bool). goal.custom && not b) provider ∙ and_false goal.custom
-
-  -- over a kin a provider is kept or changed
+module _ (goal : Goal) (change : ProviderChange) (checked : Pairs) (diff : Option Diffed) (unprovided : is_provided goal ≡ false) where
+  -- over a kin it is kept or changed
   over_stays : (kin : Entry) (same : Bool) → is_replacement (decide_over kin goal change same diff) ≡ false
   over_stays kin same = by (is_conflict kin goal) (is_provided goal) same unprovided
     where
@@ -318,13 +311,13 @@ module _ (goal : Goal) (change : ProviderChange) (checked : Pairs) (diff : Optio
   kin_stays (Some kin) = over_stays kin (fields_same kin.inputs checked)
 
   reading_stays : (claim : Option Entry) → is_replacement (decide_reading claim goal) ≡ false
-  reading_stays claim = by (is_managed claim)
+  reading_stays claim = by (is_some (kin_of claim))
     where
       by : (b : Bool) → is_replacement (if b then decision.Refused (ReadOverManaged goal.urn) else decision.ReadOnly) ≡ false
       by true = refl
       by false = refl
 
-  -- the table replaces no provider
+  -- the table does not replace it
   table_stays : (claim : Option Entry) → is_replacement (decide claim goal change checked diff) ≡ false
   table_stays claim = by (is_reading_goal goal) (custom_differs claim goal)
     where
@@ -344,12 +337,12 @@ final_stays turn choice h = by (is_refused choice) (option_or (chain_refusal tur
     by false None = h
     by false (Some problem) = refl
 
--- no decision replaces a provider
-pub provider-stays : (run : Fixed) (history : List Event) (number : ℕ) (one : Decided) (made : WasMade run history number one)
-    → is_provider_goal made.goal ≡ true → is_replacement one.decision ≡ false
-provider-stays run history number one made provider =
+-- no decision replaces what has no provider
+pub unprovided-stays : (run : Fixed) (history : List Event) (number : ℕ) (one : Decided) (made : WasMade run history number one)
+    → is_provided made.goal ≡ false → is_replacement one.decision ≡ false
+unprovided-stays run history number one made unprovided =
     let turn : Turn = turn_of run (answers_of (known_of run history).history) made.earlier made.before made.goal in
     let parts = decided_parts turn one made.made in
     subst (λ (it : Decided). is_replacement it.decision ≡ false) parts.2
     (final_stays turn (decide (claim_at turn) made.goal (change_at turn) parts.0 parts.1)
-    (table_stays made.goal (change_at turn) parts.0 parts.1 provider (claim_at turn)))
+    (table_stays made.goal (change_at turn) parts.0 parts.1 unprovided (claim_at turn)))

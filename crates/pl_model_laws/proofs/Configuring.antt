@@ -11,10 +11,10 @@ use Rattle.pl_events.specs.declared.operation.Source.{Source}
 use Rattle.pl_events.specs.declared.operation.Source.TheVariants as source
 use Rattle.pl_events.specs.declared.operation.Subject.TheVariants as subject
 use Rattle.pl_events.specs.declared.reply.Reply.{Reply}
-use Rattle.pl_model.specs.Run.{Fixed, Spelling}
+use Rattle.pl_model.specs.Run.{Fixed, Pairs, Spelling}
 use Rattle.pl_model.specs.Tickets.{Closed, Errand, answers_of, begun_of, closed_by, errand_at, errand_of, is_coming, is_configured, is_lost, lane_source, lanes_from, reply_if, reply_to, same_op, was_begun}
 use Rattle.pl_model.specs.Decisions.{Turn, checked_in, number_at, turn_in}
-use Rattle.pl_model.specs.Due.{asks_config, is_checked_lane, is_due_on, is_next_lane, is_ready_on, passes_limit, to_send, wants_lane}
+use Rattle.pl_model.specs.Due.{asks_config, is_checked_lane, is_due_on, is_next_lane, is_ready_on, may_configure, passes_limit, to_send, wants_lane}
 use Rattle.pl_model.specs.History.{known_of}
 use Rattle.pl_model.specs.Known.{Known, has_problem, is_recorded, next_turn}
 use Rattle.pl_model.specs.Legal.{IsLegal, MayHappen}
@@ -36,7 +36,7 @@ second_passes false b h = h
 
 -- ---- what was begun
 
-begun_more : (event : Event) (past : List Event) (about : Op) → was_begun past about ≡ true → was_begun (event ∷ past) about ≡ true
+pub begun_more : (event : Event) (past : List Event) (about : Op) → was_begun past about ≡ true → was_begun (event ∷ past) about ≡ true
 begun_more event past about h = by (errand_of event)
   where
     by : (o : Option Errand) → list_any (λ errand. same_op errand.op about) (cons_option o (begun_of past)) ≡ true
@@ -108,13 +108,15 @@ configure_due known provider lane ready =
     by (inr h) = inr (and_left (wants_lane known provider) (is_next_lane known lane) h)
 
 -- the inputs of a goal whose lane is to be configured after a check were checked
-checked_lane_begun : (run : Fixed) (past : List Event) (number lane : ℕ)
+pub checked_lane_begun : (run : Fixed) (past : List Event) (number lane : ℕ)
     → is_checked_lane (known_of run past) (source.Goal number) lane ≡ true
     → was_begun past (op.CheckConfig (subject.Goal number)) ≡ true
 checked_lane_begun run past number lane h =
     let known : Known = known_of run past in
-    let said = checked_there (reply_to known.answers (op.CheckConfig (subject.Goal number)))
+    let fields = passes_some (may_configure known) (checked_in (reply_to known.answers (op.CheckConfig (subject.Goal number))))
     (and_left _ _ (and_left _ _ (and_left _ _ (and_left _ _ h)))) in
+    let said = checked_there (reply_to known.answers (op.CheckConfig (subject.Goal number)))
+    (ap (λ (o : Option Pairs). is_some o) fields.1) in
     replied-begun past (op.CheckConfig (subject.Goal number)) said.0
     (sym (ap (λ (answers : List Closed). reply_to answers (op.CheckConfig (subject.Goal number))) (answers_as run past)
     ∙ ap (λ (events : List Event). reply_to (answers_of events) (op.CheckConfig (subject.Goal number))) (history_of run past)) ∙ said.1)

@@ -7,17 +7,16 @@ use Rattle.std.proofs.lemmas.List.Elements.{filter_map-append}
 use Rattle.std.proofs.lemmas.List.Folds.{list_any-append}
 use Rattle.std.proofs.lemmas.Option.{slice_get_within}
 use Rattle.std.specs.List.{cons_option, list_all, list_any, range_with_len}
-use Rattle.pl_urn.specs.Grammar.{IsScope}
-use Rattle.pl_reference.specs.declared.reference.ProviderRef.{ProviderRef}
 use Rattle.pl_state.specs.Chain.{refers_to}
-use Rattle.pl_state.specs.Sound.{IsSound, has_urn, is_met, is_provider, optional_wants}
+use Rattle.pl_state.specs.References.{finds_references, further_urns, has_urn, is_provider, optional_refs}
+use Rattle.pl_state.specs.Sound.{IsSound, is_met}
 use Rattle.pl_state.specs.declared.entry.Entry.{Entry}
-use Rattle.pl_state.specs.declared.fault.Missing.TheVariants.{Provider}
+use Rattle.pl_state.specs.declared.fault.Missing.TheVariants.{Parent, Provider}
 use Rattle.pl_state.specs.declared.goal.Goal.{Goal}
 use Rattle.pl_events.specs.declared.event.Event.{Event}
-use Rattle.pl_model.specs.Run.{Fixed, Spelling, is_preview, is_refresh, rows_of}
+use Rattle.pl_model.specs.Run.{Fixed, HasNames, Spelling, is_preview, is_refresh, rows_of}
 use Rattle.pl_model.specs.Claims.{goal_number}
-use Rattle.pl_model.specs.Covers.{IsWithout, finds_references}
+use Rattle.pl_model.specs.Covers.{IsWithout}
 use Rattle.pl_model.specs.Due.{is_delete_ready, is_recorded_urn, is_removable, none_or, references_recorded}
 use Rattle.pl_model.specs.Entries.{new_entries, old_entries, old_row, recorded_entry, reference_to, row_now}
 use Rattle.pl_model.specs.History.{known_of}
@@ -31,24 +30,20 @@ use Rattle.pl_model_laws.proofs.Dependents.{depended}
 use Rattle.pl_model_laws.proofs.Founding.{all_back, held, old_is}
 use Rattle.pl_model_laws.proofs.Growing.{equal_numbers, run_of, same_number}
 use Rattle.pl_model_laws.proofs.Keeping.{merged_pairs}
-use Rattle.pl_model_laws.proofs.Once.{and_left, and_right, not_true}
+use Rattle.pl_model_laws.proofs.Once.{and_left, and_right}
 use Rattle.pl_model_laws.proofs.Pairs.{Each, Pairwise, pairs-all}
 use Rattle.pl_model_laws.proofs.Provided.{providers-provide}
 use Rattle.pl_model_laws.proofs.Providers.{provider-id}
 use Rattle.pl_model_laws.proofs.Recorded.{recorded-after-references, recorded-held}
-use Rattle.pl_model_laws.proofs.Referring.{ProvidersProvide, Standing, all_weaker, entry_met, is_named, number_found, recorded_stands, reference_met}
+use Rattle.pl_model_laws.proofs.Referring.{ProvidersProvide, Standing, all_weaker, entry_met, further_of, is_named, number_found, recorded_stands, reference_met, same_wants}
+use Rattle.pl_model_laws.proofs.Removing.{removable-parts}
 use Rattle.pl_model_laws.proofs.Sounding.{sound-apart, sound-from}
 use Rattle.pl_model_laws.proofs.Standing.{passing, some_there}
+use Rattle.pl_model_laws.proofs.Wants.{found_by_met, met_by_tests}
 
 -- ---- references
 
--- a reference that is met, if there is one
-met_one : (rows : List Entry) (o : Option ProviderRef) → list_all (is_met rows) (optional_wants Provider o) ≡ true
-    → none_or (λ reference. list_any (is_provider reference) rows) o ≡ true
-met_one rows None h = refl
-met_one rows (Some reference) h = and_left (list_any (is_provider reference) rows) true h
-
-module _ (run : Fixed) (spelling : Spelling) (history : List Event) (stack : IsScope run.stack) (project : IsScope run.project)
+module _ (run : Fixed) (spelling : Spelling) (history : List Event) (names : HasNames run)
     (legal : IsLegal run spelling history) where
   abbrev known : Known
   known = known_of run history
@@ -57,7 +52,7 @@ module _ (run : Fixed) (spelling : Spelling) (history : List Event) (stack : IsS
   entries = new_entries (known_of run history) ++ old_entries (known_of run history)
 
   provide : ProvidersProvide known
-  provide = providers-provide run history stack project
+  provide = providers-provide run spelling history names legal
 
   standing_of : (number : ℕ) (goal : Goal) → is_recorded known number ≡ true → goal_at known number ≡ Some goal → Standing known number goal
   standing_of = recorded_stands run spelling history legal (held run spelling history legal provide) recorded-after-references provide
@@ -81,7 +76,7 @@ module _ (run : Fixed) (spelling : Spelling) (history : List Event) (stack : IsS
 
   -- the reference to a recorded provider is to an entry
   provider_found : (number own : ℕ) (goal : Goal) → goal_at known number ≡ Some goal → goal.provider ≡ Some own → is_recorded known own ≡ true
-      → none_or (λ reference. list_any (is_provider reference) entries) (reference_to known own) ≡ true
+      → list_all (is_met entries) (optional_refs Provider (reference_to known own)) ≡ true
   provider_found number own goal here names recorded =
       let there = recorded-held run spelling history own legal recorded in
       let other : Goal = there.0 in
@@ -91,50 +86,40 @@ module _ (run : Fixed) (spelling : Spelling) (history : List Event) (stack : IsS
       (provide number own goal other here names at) at standing.decided standing.recording in
       let text = some_there (provider_id known own) ids.1 in
       let id : standing.row.id ≡ Some text.0 = standing.stands.id ∙ ids.0 ∙ text.1 in
-      met_one entries (reference_to known own) (reference_met known own other text.0 entries at text.1
+      reference_met known own other text.0 entries at text.1
       (among_new (is_provider (record { urn = other.urn; id = text.0 })) own standing.row recorded standing.entry
-      (is_named other.urn text.0 standing.row standing.stands.urn id)))
+      (is_named other.urn text.0 standing.row standing.stands.urn id))
 
   abbrev is_there : List ℕ → Bool
   is_there urn = list_any (has_urn urn) (new_entries (known_of run history) ++ old_entries (known_of run history))
 
-  parent_found : (o : Option (List ℕ)) → none_or (is_recorded_urn known) o ≡ true → none_or is_there o ≡ true
+  parent_found : (o : Option (List ℕ)) → none_or (is_recorded_urn known) o ≡ true → list_all (is_met entries) (optional_refs Parent o) ≡ true
   parent_found None h = refl
-  parent_found (Some urn) h = urn_found urn h
+  parent_found (Some urn) h = ap (λ (b : Bool). b && true) (urn_found urn h)
 
   own_provider_found : (number : ℕ) (goal : Goal) → goal_at known number ≡ Some goal → none_or (is_recorded known) goal.provider ≡ true
-      → none_or (λ reference. list_any (is_provider reference) entries) (option_and_then (reference_to known) goal.provider) ≡ true
+      → list_all (is_met entries) (optional_refs Provider (option_and_then (reference_to known) goal.provider)) ≡ true
   own_provider_found number goal here h = by goal.provider refl h
     where
       by : (o : Option ℕ) → goal.provider ≡ o → none_or (is_recorded known) o ≡ true
-          → none_or (λ reference. list_any (is_provider reference) entries) (option_and_then (reference_to known) o) ≡ true
+          → list_all (is_met entries) (optional_refs Provider (option_and_then (reference_to known) o)) ≡ true
       by None is h = refl
       by (Some own) is h = provider_found number own goal here is h
 
   -- where the references of a goal are recorded, a row with these references finds them among the entries
   pub references-found : (number : ℕ) (goal : Goal) (row : Entry) → goal_at known number ≡ Some goal → references_recorded known goal ≡ true
-      → row.parent ≡ goal.parent → row.provider ≡ option_and_then (reference_to known) goal.provider
-      → row.dependencies ≡ goal.dependencies → row.property_dependencies ≡ goal.property_dependencies
+      → row.parent ≡ goal.parent → row.provider ≡ option_and_then (reference_to known) goal.provider → further_of row ≡ further_urns goal
       → finds_references entries row ≡ true
-  references-found number goal row here all parent provider dependencies properties =
-      let above = and_left _ (list_all (λ (pair : List ℕ × List (List ℕ)). list_all (is_recorded_urn known) pair.1) goal.property_dependencies) all in
-      let further = and_left _ (list_all (is_recorded_urn known) goal.dependencies) above in
-      let parent_there : none_or is_there row.parent ≡ true =
-      ap (λ (o : Option (List ℕ)). none_or is_there o) parent
-      ∙ parent_found goal.parent (and_left (none_or (is_recorded_urn known) goal.parent) (none_or (is_recorded known) goal.provider) further) in
-      let provider_there : none_or (λ reference. list_any (is_provider reference) entries) row.provider ≡ true =
-      ap (λ (o : Option ProviderRef). none_or (λ reference. list_any (is_provider reference) entries) o) provider
-      ∙ own_provider_found number goal here (and_right (none_or (is_recorded_urn known) goal.parent) (none_or (is_recorded known) goal.provider) further) in
-      let dependencies_there : list_all is_there row.dependencies ≡ true =
-      ap (λ (urns : List (List ℕ)). list_all is_there urns) dependencies
-      ∙ all_weaker (is_recorded_urn known) is_there urn_found goal.dependencies (and_right _ (list_all (is_recorded_urn known) goal.dependencies) above) in
-      let properties_there : list_all (λ (pair : List ℕ × List (List ℕ)). list_all is_there pair.1) row.property_dependencies ≡ true =
-      ap (λ (pairs : List (List ℕ × List (List ℕ))). list_all (λ (pair : List ℕ × List (List ℕ)). list_all is_there pair.1) pairs) properties
-      ∙ all_weaker (λ (pair : List ℕ × List (List ℕ)). list_all (is_recorded_urn known) pair.1)
-      (λ (pair : List ℕ × List (List ℕ)). list_all is_there pair.1)
-      (λ pair passes. all_weaker (is_recorded_urn known) is_there urn_found pair.1 passes) goal.property_dependencies
-      (and_right _ (list_all (λ (pair : List ℕ × List (List ℕ)). list_all (is_recorded_urn known) pair.1) goal.property_dependencies) all) in
-      rw parent_there (rw provider_there (rw dependencies_there properties_there))
+  references-found number goal row here all parent provider further =
+      let first = and_left _ (list_all (is_recorded_urn known) (further_urns goal)) all in
+      found_by_met entries row (met_by_tests entries row (record {
+        parent = ap (λ (o : Option (List ℕ)). list_all (is_met entries) (optional_refs Parent o)) parent
+            ∙ parent_found goal.parent (and_left (none_or (is_recorded_urn known) goal.parent) (none_or (is_recorded known) goal.provider) first);
+        provider = same_wants entries Provider row.provider (option_and_then (reference_to known) goal.provider) provider
+            ∙ own_provider_found number goal here (and_right (none_or (is_recorded_urn known) goal.parent) (none_or (is_recorded known) goal.provider) first);
+        further = ap (λ (urns : List (List ℕ)). list_all is_there urns) further
+            ∙ all_weaker (is_recorded_urn known) is_there urn_found (further_urns goal) (and_right _ (list_all (is_recorded_urn known) (further_urns goal)) all);
+      }))
 
 -- ---- a list without one of its elements
 
@@ -211,7 +196,7 @@ split_at test number a (suc n) passes low high =
 -- ---- the row that goes
 
 module _ (run : Fixed) (spelling : Spelling) (history : List Event)
-    (stack : IsScope run.stack) (project : IsScope run.project) (real : is_preview run.mode ≡ false)
+    (names : HasNames run) (real : is_preview run.mode ≡ false)
     (sound : IsSound (rows_of run)) (named : NameProviders (rows_of run)) (legal : IsLegal run spelling history)
     (place : ℕ) (entry : Entry) (here : slice_get (rows_of run) place ≡ Some entry)
     (ready : is_delete_ready (known_of run history) place ≡ true) where
@@ -229,12 +214,10 @@ module _ (run : Fixed) (spelling : Spelling) (history : List Event)
   removable = and_left (is_removable now place) _ ready
 
   doomed : is_doomed now place ≡ true
-  doomed = and_left (is_doomed now place) (not (has_dependents now place)) (and_left _ (not (is_preview now.run.mode)) removable)
+  doomed = (removable-parts now place removable).doomed
 
   independent : has_dependents now place ≡ false
-  independent =
-      not_true (has_dependents now place)
-      (and_right (is_doomed now place) (not (has_dependents now place)) (and_left _ (not (is_preview now.run.mode)) removable))
+  independent = (removable-parts now place removable).free
 
   left : is_left now place ≡ true
   left = and_left (is_left now place) (not (is_refresh now.run.mode)) (and_left _ _ (and_left _ _ doomed))
@@ -303,13 +286,13 @@ module _ (run : Fixed) (spelling : Spelling) (history : List Event)
       (subst (λ (rows : List Entry). Pairwise AreApart rows) (sym rest_is)
       (pairs_without AreApart front_entries row behind_entries
       (subst (λ (rows : List Entry). Pairwise AreApart rows) whole_is
-      (merged_pairs run spelling history stack project real (sound-apart (rows_of run) sound) legal))))
+      (merged_pairs run spelling history names real (sound-apart (rows_of run) sound) legal))))
 
   others_sound : IsSound others
   others_sound =
       sound-from others
       (all_back run spelling history real sound named legal stays left_so closed recorded-after-references
-      (providers-provide run history stack project))
+      (providers-provide run spelling history names legal))
       others_apart
 
   -- without a row whose deletion is due, the entries are sound

@@ -1,5 +1,5 @@
 -- A row goes only once the later rows that refer to it are gone.
-use Rattle.std.proofs.Common.{◌≡◌, ℕ, zero, suc, ◌+◌, ◌<◌, ◌≤◌, ◌==◌, Bool, true, false, not, ◌&&◌, ◌||◌, cond, List, [], ◌∷◌, length, Option, Some, None, refl, sym, ◌∙◌, ap, subst, inl, inr, ◌⊎◌, arith, find, nat_lt, eq-or-lt_of_le}
+use Rattle.std.proofs.Common.{◌≡◌, ℕ, zero, suc, ◌+◌, ◌<◌, ◌≤◌, ◌==◌, Bool, true, false, ◌&&◌, ◌||◌, cond, List, [], ◌∷◌, length, Option, Some, None, refl, sym, ◌∙◌, ap, subst, inl, inr, ◌⊎◌, arith, find, nat_lt, eq-or-lt_of_le}
 use Rattle.std.proofs.lemmas.Bool.Decides.{nat_tests}
 use Rattle.std.specs.List.{cons_option, list_any, range_with_len}
 use Rattle.pl_state.specs.Chain.{refers_to}
@@ -10,17 +10,19 @@ use Rattle.pl_events.specs.declared.operation.Op.{Op}
 use Rattle.pl_events.specs.declared.operation.Op.TheVariants as op
 use Rattle.pl_events.specs.declared.operation.Subject.TheVariants as subject
 use Rattle.pl_events.specs.declared.reply.Reply.{Reply}
-use Rattle.pl_model.specs.Run.{Fixed, Spelling, is_preview, rows_of}
-use Rattle.pl_model.specs.Due.{is_delete_ready, is_drop_ready, is_due, is_due_on, is_lane_of, is_ready, is_ready_on, is_removable, is_wanted_op, passes_limit, to_drop, to_send}
+use Rattle.pl_model.specs.Run.{Fixed, Spelling, rows_of}
+use Rattle.pl_model.specs.Due.{is_due, is_due_on, is_removable, to_drop}
 use Rattle.pl_model.specs.History.{known_of}
-use Rattle.pl_model.specs.Known.{Known, has_problem}
+use Rattle.pl_model.specs.Known.{Known}
 use Rattle.pl_model.specs.Legal.{IsLegal, MayHappen}
 use Rattle.pl_model.specs.Recording.{has_number, is_removed, only_if, removed_by, removed_of, row_of_delete}
-use Rattle.pl_model.specs.Rows.{has_dependents, is_doomed, is_left, is_taken_over}
+use Rattle.pl_model.specs.Rows.{has_dependents, is_left, is_taken_out, is_taken_over}
 use Rattle.pl_model.specs.Tickets.{Errand, begun_of, errand_at, same_op, was_begun}
 use Rattle.pl_model_laws.proofs.Growing.{equal_numbers, or_true, run_of}
-use Rattle.pl_model_laws.proofs.Leaving.{left-before, left_parts}
-use Rattle.pl_model_laws.proofs.Once.{and_left, and_right, equal_ops, not_true}
+use Rattle.pl_model_laws.proofs.Leaving.{left_parts}
+use Rattle.pl_model_laws.proofs.Once.{equal_ops}
+use Rattle.pl_model_laws.proofs.Removing.{deleted-removable, dropped-removable, removable-parts}
+use Rattle.pl_model_laws.proofs.TakenOut.{left-before}
 
 -- a number within a range is found there
 pub number_within : (test : ℕ → Bool) (a n k : ℕ) → a ≤ k → k < a + n → test k ≡ true → list_any test (range_with_len a n) ≡ true
@@ -59,40 +61,16 @@ module _ (known : Known) (later earlier : ℕ) (refers : refers_to (rows_of know
   pub depended : has_dependents known earlier ≡ true
   depended =
       let below : nat_lt later (length (rows_of known.run)) ≡ true =
-      (left_parts (nat_lt later (length (rows_of known.run))) (has_number (removed_of known.history) later)
-      (is_taken_over known later) left).0 in
+      (left_parts (nat_lt later (length (rows_of known.run))) (is_taken_out known later) (is_taken_over known later) left).0 in
       number_within (λ (row : ℕ). refers_to (rows_of known.run) row earlier && is_left known row) 0
       (length (rows_of known.run)) later (omega arith) (below_length later (length (rows_of known.run)) below)
       (ap (λ (b : Bool). b && is_left known later) refers ∙ left)
 
-  -- so this one cannot be taken out
+  -- so this one can neither be deleted nor dropped
   not_removable : is_removable known earlier ≡ true → ⊥
   not_removable h =
-      let none : has_dependents known earlier ≡ false =
-      not_true (has_dependents known earlier)
-      (and_right (is_doomed known earlier) _ (and_left _ (not (is_preview known.run.mode)) h)) in
-      let e : true ≡ false = sym depended ∙ none in
+      let e : true ≡ false = sym depended ∙ (removable-parts known earlier h).free in
       cc
-
-  -- nor dropped
-  not_dropped : is_due known (to_drop earlier) ≡ true → ⊥
-  not_dropped h =
-      let ready : is_drop_ready known earlier ≡ true =
-      and_right (not (has_problem known)) (is_drop_ready known earlier)
-      (and_left (is_ready known (to_drop earlier)) (not (passes_limit known (to_drop earlier))) h) in
-      not_removable (and_left (is_removable known earlier) _ ready)
-
-  -- nor deleted
-  not_deleted : (lane : ℕ) → is_due_on known (op.Delete (subject.Row earlier)) lane ≡ true → ⊥
-  not_deleted lane h =
-      let ready : is_ready_on known (op.Delete (subject.Row earlier)) lane ≡ true =
-      and_left (is_ready_on known (op.Delete (subject.Row earlier)) lane)
-      (not (passes_limit known (to_send (op.Delete (subject.Row earlier))))) h in
-      let wanted : is_wanted_op known (op.Delete (subject.Row earlier)) ≡ true =
-      and_right (not (has_problem known)) _ (and_left _ (is_lane_of known (op.Delete (subject.Row earlier)) lane) ready) in
-      let asked : is_delete_ready known earlier ≡ true =
-      and_right (not (was_begun known.history (op.Delete (subject.Row earlier)))) _ wanted in
-      not_removable (and_left (is_removable known earlier) _ asked)
 
 -- ---- the laws
 
@@ -111,8 +89,9 @@ module _ (run : Fixed) (spelling : Spelling) (later earlier : ℕ) (refers : ref
   began ticket seat lane about past left due never = by (same_op about deletes) refl
     where
       by : (b : Bool) → same_op about deletes ≡ b → (same_op about deletes || was_begun past deletes) ≡ false
-      by true is = absurd (not_deleted (known_of run past) later earlier (refers_in past) left lane
-          (subst (λ (it : Op). is_due_on (known_of run past) it lane ≡ true) (equal_ops about deletes is) due))
+      by true is = absurd (not_removable (known_of run past) later earlier (refers_in past) left
+          (deleted-removable (known_of run past) earlier lane
+          (subst (λ (it : Op). is_due_on (known_of run past) it lane ≡ true) (equal_ops about deletes is) due)))
       by false is = ap (λ (b : Bool). b || was_begun past deletes) is ∙ never
 
   -- no event begins the deletion
@@ -127,7 +106,7 @@ module _ (run : Fixed) (spelling : Spelling) (later earlier : ℕ) (refers : ref
       → was_begun history deletes ≡ false
   deleted_last [] legal left = refl
   deleted_last (event ∷ past) legal left =
-      let before : is_left (known_of run past) later ≡ true = left-before run event past later left in
+      let before : is_left (known_of run past) later ≡ true = left-before run spelling event past legal later left in
       begun_step event.seat event.what past before legal.1 (deleted_last past legal.0 before)
 
   -- an operation other than the deletion takes out another row, or none
@@ -174,8 +153,9 @@ module _ (run : Fixed) (spelling : Spelling) (later earlier : ℕ) (refers : ref
   dropped seat row past left due stays = by (row == earlier) refl
     where
       by : (b : Bool) → (row == earlier) ≡ b → ((row == earlier) || has_number (removed_of past) earlier) ≡ false
-      by true is = absurd (not_dropped (known_of run past) later earlier (refers_in past) left
-          (subst (λ (number : ℕ). is_due (known_of run past) (to_drop number) ≡ true) (equal_numbers row earlier is) due))
+      by true is = absurd (not_removable (known_of run past) later earlier (refers_in past) left
+          (dropped-removable (known_of run past) earlier
+          (subst (λ (number : ℕ). is_due (known_of run past) (to_drop number) ≡ true) (equal_numbers row earlier is) due)))
       by false is = ap (λ (b : Bool). b || has_number (removed_of past) earlier) is ∙ stays
 
   -- no event takes the row out
@@ -192,5 +172,5 @@ module _ (run : Fixed) (spelling : Spelling) (later earlier : ℕ) (refers : ref
       → has_number (removed_of history) earlier ≡ false
   gone_last [] legal left = refl
   gone_last (event ∷ past) legal left =
-      let before : is_left (known_of run past) later ≡ true = left-before run event past later left in
+      let before : is_left (known_of run past) later ≡ true = left-before run spelling event past legal later left in
       gone_step event.seat event.what past before legal.1 (deleted_last past legal.0 before) (gone_last past legal.0 before)

@@ -1,5 +1,5 @@
 -- No two goals have the same URN.
-use Rattle.std.proofs.Common.{◌≡◌, ℕ, ◌==◌, Bool, true, false, not, ◌&&◌, if◌then◌else◌, List, [], ◌∷◌, length, Option, Some, None, is_some, is_none, Ok, Err, refl, sym, ◌∙◌, ap, subst, option_map}
+use Rattle.std.proofs.Common.{◌≡◌, ℕ, ◌==◌, Bool, true, false, not, ◌&&◌, ◌||◌, if◌then◌else◌, List, [], ◌∷◌, length, Option, Some, None, is_some, is_none, Ok, Err, refl, sym, ◌∙◌, ap, subst, option_map}
 use Rattle.std.proofs.lemmas.Slice.Eq.{bytes_eq-Decides}
 use Rattle.std.specs.List.{starts_with}
 use Rattle.std.specs.Option.{option_or}
@@ -12,6 +12,7 @@ use Rattle.pl_state.specs.Kinds.{is_of_provider, is_provided, is_provider_goal}
 use Rattle.pl_state.specs.declared.fault.OptionFault.TheVariants.{BadUrn}
 use Rattle.pl_state.specs.declared.goal.Goal.{Goal}
 use Rattle.pl_state.specs.declared.goal.Registration.{Registration}
+use Rattle.pl_events.specs.Closing.{has_host_end}
 use Rattle.pl_events.specs.declared.event.Event.{Event}
 use Rattle.pl_events.specs.declared.event.Request.{Request}
 use Rattle.pl_events.specs.declared.event.Request.TheVariants.{Register, Outputs, Invoke}
@@ -19,10 +20,11 @@ use Rattle.pl_events.specs.declared.event.What.{What}
 use Rattle.pl_events.specs.declared.event.What.TheVariants.{Told}
 use Rattle.pl_decide.specs.declared.problem.Problem.{Problem}
 use Rattle.pl_decide.specs.declared.problem.Problem.TheVariants.{BadOption, DuplicateUrn, UnknownReference}
-use Rattle.pl_model.specs.Run.{Fixed}
+use Rattle.pl_model.specs.Run.{Fixed, HasNames, Spelling, has_host}
 use Rattle.pl_model.specs.Claims.{goal_number, numbered}
 use Rattle.pl_model.specs.History.{goals_after, known_of}
 use Rattle.pl_model.specs.Known.{halted, Known, goal_at, has_problem}
+use Rattle.pl_model.specs.Legal.{IsLegal, MayHappen}
 use Rattle.pl_model.specs.Requests.{default_goal, default_urn, fate_by, fate_of, first_in, goal_refusal, goals_by, goals_made, has_goal, invoked_version, is_bad_default, named_provider, refusal_of, refused_if, result_refusal, unknown_references, uses_default, with_default, with_goal, with_invoked, with_provider, with_result}
 use Rattle.pl_model_laws.proofs.Growing.{equal_numbers, run_of}
 use Rattle.pl_model_laws.proofs.Once.{and_left, and_right, not_true}
@@ -202,21 +204,41 @@ module _ (known : Known) (in_stack : IsScope known.run.stack) (in_project : IsSc
       by false None is = apart_made request is
       by false (Some problem) is = apart
 
-  -- one event more
-  apart_after : (what : What) → IsApart (goals_after known what)
-  apart_after (Told request) = apart_told request
-  apart_after _ = apart
+-- ---- legal histories
 
--- the goals of every history have URNs of their own
-pub apart_of : (run : Fixed) (history : List Event) → IsScope run.stack → IsScope run.project → IsApart (known_of run history).goals
+-- where a request is told there is a host
+hosted : (hosting ended : Bool) → (not hosting || ended) ≡ false → hosting ≡ true
+hosted true ended h = refl
+hosted false ended h = absurd (let e : true ≡ false = h in cc)
+
+-- so stack and project have names that stand in a URN
+pub told-names : (spelling : Spelling) (known : Known) (seat : ℕ) (request : Request) → HasNames known.run
+    → MayHappen spelling known seat (Told request) → IsScope known.run.stack × IsScope known.run.project
+told-names spelling known seat request names may = names (hosted (has_host known.run.mode) (has_host_end known.history) may.host_open)
+
+-- the names are those of the run, whatever happened
+pub names-there : (run : Fixed) (history : List Event) → HasNames run → HasNames (known_of run history).run
+names-there run history names = subst (λ (fixed : Fixed). HasNames fixed) (sym (run_of run history)) names
+
+-- one event more
+apart_after : (spelling : Spelling) (known : Known) (seat : ℕ) (what : What) → HasNames known.run → MayHappen spelling known seat what
+    → IsApart known.goals → IsApart (goals_after known what)
+apart_after spelling known seat (Told request) names may apart =
+    let scopes = told-names spelling known seat request names may in
+    apart_told known scopes.0 scopes.1 apart request
+apart_after spelling known seat _ names may apart = apart
+
+-- the goals of every legal history have URNs of their own
+pub apart_of : (run : Fixed) (spelling : Spelling) (history : List Event) → HasNames run → IsLegal run spelling history
+    → IsApart (known_of run history).goals
 unfolding known_of
-apart_of run [] in_stack in_project = tt
-apart_of run (event ∷ past) in_stack in_project =
-    apart_after (known_of run past) (subst (λ (fixed : Fixed). IsScope fixed.stack) (sym (run_of run past)) in_stack)
-    (subst (λ (fixed : Fixed). IsScope fixed.project) (sym (run_of run past)) in_project) (apart_of run past in_stack in_project) event.what
+apart_of run spelling [] names legal = tt
+apart_of run spelling (event ∷ past) names legal =
+    apart_after spelling (known_of run past) event.seat event.what (names-there run past names) legal.1 (apart_of run spelling past names legal.0)
 
 -- no two goals have the same URN
-pub goals-apart : (run : Fixed) (history : List Event) (one other : ℕ) (first second : Goal) → IsScope run.stack → IsScope run.project
+pub goals-apart : (run : Fixed) (spelling : Spelling) (history : List Event) (one other : ℕ) (first second : Goal)
+    → HasNames run → IsLegal run spelling history
     → goal_at (known_of run history) one ≡ Some first → goal_at (known_of run history) other ≡ Some second → first.urn ≡ second.urn → one ≡ other
-goals-apart run history one other first second in_stack in_project =
-    apart_numbers (known_of run history).goals (apart_of run history in_stack in_project) one other first second
+goals-apart run spelling history one other first second names legal =
+    apart_numbers (known_of run history).goals (apart_of run spelling history names legal) one other first second

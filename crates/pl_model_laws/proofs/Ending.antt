@@ -9,24 +9,31 @@ use Rattle.pl_events.specs.declared.event.Event.{Event}
 use Rattle.pl_decide.specs.Permits.{is_wanted}
 use Rattle.pl_decide.specs.declared.problem.Problem.{Problem}
 use Rattle.pl_decide.specs.declared.problem.Problem.TheVariants as problem
-use Rattle.pl_model.specs.Run.{Fixed, is_destroy, is_refresh, rows_of}
-use Rattle.pl_model.specs.Recording.{has_number, removed_of}
+use Rattle.pl_model.specs.Run.{Fixed, Spelling, is_destroy, is_preview, is_refresh, rows_of}
 use Rattle.pl_model.specs.History.{known_of}
-use Rattle.pl_model.specs.Known.{Known, has_problem, is_over, known_by}
+use Rattle.pl_model.specs.Known.{Known, has_problem, host_ended, is_over, known_by}
+use Rattle.pl_model.specs.Legal.{IsLegal}
 use Rattle.pl_model.specs.Problems.{end_problems, ends_well, first_row, holds_doomed, is_unpermitted, lacks_provider, limit_problem, made_problems, refresh_problems, row_problem, start_problems}
-use Rattle.pl_model.specs.Requests.{first_in, option_list}
-use Rattle.pl_model.specs.Rows.{is_doomed, is_left, is_taken_over, is_target, row_at, row_numbers, takes_along}
+use Rattle.pl_state.specs.References.{option_list}
+use Rattle.pl_model.specs.Requests.{first_in}
+use Rattle.pl_model.specs.Rows.{is_doomed, is_left, is_taken_out, is_taken_over, is_target, row_at, row_numbers}
+use Rattle.pl_model_laws.specs.Apart.{KeepsApart}
 use Rattle.pl_model_laws.proofs.Calm.{append_none, calm-before, first_none, map_none, no-end, no-made, no_problems, option_list_none, range_each}
 use Rattle.pl_model_laws.proofs.Dependents.{number_within}
 use Rattle.pl_model_laws.proofs.Growing.{run_of}
-use Rattle.pl_model_laws.proofs.Leaving.{left-before, left_parts}
-use Rattle.pl_model_laws.proofs.Once.{and_left, and_right, not_true}
+use Rattle.pl_model_laws.proofs.Going.{doomed-parts, provided-later}
+use Rattle.pl_model_laws.proofs.Leaving.{left_parts}
+use Rattle.pl_model_laws.proofs.Once.{and_left}
+use Rattle.pl_model_laws.proofs.Removing.{Later, later-before, later-now, later-through}
+use Rattle.pl_model_laws.proofs.TakenOut.{left-before}
 use Rattle.pl_model_laws.proofs.Troubles.{and_made, or_first}
 
 -- ---- where the run became over
 
 -- a history before this one at which the run is over without a problem; what is left now was left there
-pub record IsEnded (run : Fixed) (past : List Event) (known : Known) : Type 0 where
+pub record IsEnded (run : Fixed) (spelling : Spelling) (past : List Event) (known : Known) : Type 0 where
+  pub later : Later run past known
+  pub legal : IsLegal run spelling past
   pub over : is_over (known_of run past) ≡ true
   pub left : (row : ℕ) → is_left known row ≡ true → is_left (known_of run past) row ≡ true
   pub clean : end_problems (known_of run past) ≡ []
@@ -71,27 +78,47 @@ newly_clean run event past calm over going =
     sym (ap (λ (b : Bool). if b then end_problems after else []) well) ∙ no-end run event past calm
 
 -- where no problem stands, a run that is over became so without one
-pub over-clean : (run : Fixed) (history : List Event) → is_refresh run.mode ≡ false → has_problem (known_of run history) ≡ false
-    → is_over (known_of run history) ≡ true → (past : List Event) × IsEnded run past (known_of run history)
-over-clean run [] other calm over =
-    ([], record { over = over; left = λ row h. h; clean = start_clean run other calm over })
-over-clean run (event ∷ past) other calm over =
-    by (is_over (known_of run past)) refl (over-clean run past other (calm-before run event past calm))
+pub over-clean : (run : Fixed) (spelling : Spelling) (history : List Event) → IsLegal run spelling history → is_refresh run.mode ≡ false
+    → has_problem (known_of run history) ≡ false → is_over (known_of run history) ≡ true
+    → (past : List Event) × IsEnded run spelling past (known_of run history)
+over-clean run spelling [] legal other calm over = (
+  [],
+  record {
+    later = later-now run [];
+    legal = legal;
+    over = over;
+    left = λ row h. h;
+    clean = start_clean run other calm over;
+  },
+)
+over-clean run spelling (event ∷ past) legal other calm over =
+    by (is_over (known_of run past)) refl (over-clean run spelling past legal.0 other (calm-before run event past calm))
   where
     by : (b : Bool) → is_over (known_of run past) ≡ b
-        → (is_over (known_of run past) ≡ true → (first : List Event) × IsEnded run first (known_of run past))
-        → (first : List Event) × IsEnded run first (known_of run (event ∷ past))
+        → (is_over (known_of run past) ≡ true → (first : List Event) × IsEnded run spelling first (known_of run past))
+        → (first : List Event) × IsEnded run spelling first (known_of run (event ∷ past))
     by true is rest =
         let found = rest is in (
           found.0,
           record {
+            later = later-through run past found.0 (known_of run (event ∷ past)) (and_left (host_ended (known_of run past)) _ is) found.1.later
+                (later-before run spelling event past (known_of run (event ∷ past)) legal.1 (later-now run (event ∷ past)));
+            legal = found.1.legal;
             over = found.1.over;
-            left = λ row h. found.1.left row (left-before run event past row h);
+            left = λ row h. found.1.left row (left-before run spelling event past legal row h);
             clean = found.1.clean;
           },
         )
-    by false is rest =
-        (event ∷ past, record { over = over; left = λ row h. h; clean = newly_clean run event past calm over is })
+    by false is rest = (
+      event ∷ past,
+      record {
+        later = later-now run (event ∷ past);
+        legal = legal;
+        over = over;
+        left = λ row h. h;
+        clean = newly_clean run event past calm over is;
+      },
+    )
 
 -- ---- what is to go there
 
@@ -120,35 +147,17 @@ second_fails : (a b : Bool) → (a && b) ≡ false → a ≡ true → b ≡ fals
 second_fails true b h first = h
 second_fails false b h first = absurd (let e : false ≡ true = first in cc)
 
--- the parts of a doomed row
-pub record IsDoomed (known : Known) (row : ℕ) : Type 0 where
-  pub left : is_left known row ≡ true
-  pub other : not (is_refresh known.run.mode) ≡ true
-  pub target : is_target known row ≡ true
-
--- a doomed row has these parts
-pub doomed_parts : (known : Known) (row : ℕ) → is_doomed known row ≡ true → IsDoomed known row
-doomed_parts known row h =
-    let first : (is_left known row && not (is_refresh known.run.mode) && is_target known row) ≡ true =
-    and_left _ (is_over known || list_any (takes_along known row) known.decided) h in
-    let second : (is_left known row && not (is_refresh known.run.mode)) ≡ true = and_left _ (is_target known row) first in
-    record {
-      left = and_left (is_left known row) _ second;
-      other = and_right (is_left known row) _ second;
-      target = and_right (is_left known row && not (is_refresh known.run.mode)) _ first;
-    }
-
 -- the problems of the end, none of which stands
 pub record IsClean (known : Known) : Type 0 where
   pub unprotected : first_row known problem.Protected (λ row entry. is_doomed known row && entry.protect) ≡ None
-  pub provided : first_row known problem.MissingProvider (λ row entry. is_doomed known row && lacks_provider entry) ≡ None
+  pub provided : first_row known problem.MissingProvider (λ row entry. is_doomed known row && lacks_provider known row) ≡ None
   pub permitted : limit_problem known ≡ None
 
 -- a run that ends without a problem has none of them
 pub clean_parts : (known : Known) → end_problems known ≡ [] → IsClean known
 clean_parts known h =
     let unprotected : Option Problem = first_row known problem.Protected (λ row entry. is_doomed known row && entry.protect) in
-    let provided : Option Problem = first_row known problem.MissingProvider (λ row entry. is_doomed known row && lacks_provider entry) in
+    let provided : Option Problem = first_row known problem.MissingProvider (λ row entry. is_doomed known row && lacks_provider known row) in
     let first = append_none (option_list unprotected) (option_list provided ++ option_list (limit_problem known)) h in
     let second = append_none (option_list provided) (option_list (limit_problem known)) first.1 in
     record {
@@ -161,7 +170,7 @@ clean_parts known h =
 pub left_within : (known : Known) (row : ℕ) → is_left known row ≡ true → row < length (rows_of known.run)
 left_within known row h =
     let below : nat_lt row (length (rows_of known.run)) ≡ true =
-    (left_parts (nat_lt row (length (rows_of known.run))) (has_number (removed_of known.history) row) (is_taken_over known row) h).0 in
+    (left_parts (nat_lt row (length (rows_of known.run))) (is_taken_out known row) (is_taken_over known row) h).0 in
     grind (arith, nat_tests)
 
 -- where the limits let go what is to go, a row that refers to it is to go too
@@ -171,7 +180,7 @@ held_target known later earlier permitted left refers doomed = by (is_destroy kn
   where
     some_doomed : list_any (λ (row : ℕ). refers_to (rows_of known.run) later row && is_doomed known row) (row_numbers known) ≡ true
     some_doomed =
-        let inside : earlier < length (rows_of known.run) = left_within known earlier (doomed_parts known earlier doomed).left in
+        let inside : earlier < length (rows_of known.run) = left_within known earlier (doomed-parts known earlier doomed).left in
         number_within (λ (row : ℕ). refers_to (rows_of known.run) later row && is_doomed known row) 0 (length (rows_of known.run)) earlier
         (omega arith) (omega arith)
         (and_made (refers_to (rows_of known.run) later earlier) (is_doomed known earlier) refers doomed)
@@ -211,7 +220,7 @@ held_target known later earlier permitted left refers doomed = by (is_destroy kn
         else first_row known problem.NotPermitted (is_unpermitted known))) is) ∙ permitted)
         (row_at known later) refl (cases (rows_of known.run) later)
 
-module _ (run : Fixed) (history : List Event) where
+module _ (run : Fixed) (spelling : Spelling) (history : List Event) (legal : IsLegal run spelling history) where
   abbrev known : Known
   known = known_of run history
 
@@ -220,13 +229,13 @@ module _ (run : Fixed) (history : List Event) where
   row_then past row = ap (λ (fixed : Fixed). slice_get (rows_of fixed) row) (run_of run past ∙ sym (run_of run history))
 
   -- a doomed row was doomed where the run became over
-  doomed_then : (past : List Event) → IsEnded run past known → (row : ℕ) → is_doomed known row ≡ true
+  doomed_then : (past : List Event) → IsEnded run spelling past known → (row : ℕ) → is_doomed known row ≡ true
       → is_doomed (known_of run past) row ≡ true
   doomed_then past ended row h =
-      let parts = doomed_parts known row h in
+      let parts = doomed-parts known row h in
       let same : known.run ≡ (known_of run past).run = run_of run history ∙ sym (run_of run past) in
       let other : not (is_refresh (known_of run past).run.mode) ≡ true =
-      subst (λ (fixed : Fixed). not (is_refresh fixed.mode) ≡ true) same parts.other in
+      ap (λ (b : Bool). not b) (subst (λ (fixed : Fixed). is_refresh fixed.mode ≡ false) same parts.other) in
       let target : is_target (known_of run past) row ≡ true =
       subst (λ (fixed : Fixed). (not (is_destroy fixed.mode)
       || some_passes (λ (entry : Entry). is_wanted fixed.limits entry.urn) (slice_get (rows_of fixed) row)) ≡ true) same parts.target in
@@ -238,29 +247,37 @@ module _ (run : Fixed) (history : List Event) where
   -- where a row is doomed not everything is read anew
   other_mode : (row : ℕ) → is_doomed known row ≡ true → is_refresh run.mode ≡ false
   other_mode row h =
-      subst (λ (fixed : Fixed). is_refresh fixed.mode ≡ false) (run_of run history)
-      (not_true (is_refresh known.run.mode) (doomed_parts known row h).other)
+      subst (λ (fixed : Fixed). is_refresh fixed.mode ≡ false) (run_of run history) (doomed-parts known row h).other
 
-  -- where the run is over and no problem stands, a row that is to go is not protected, and has its provider
-  pub end-trouble : has_problem known ≡ false → is_over known ≡ true → (row : ℕ) (entry : Entry)
-      → is_doomed known row ≡ true → row_at known row ≡ Some entry → (entry.protect ≡ false) × (lacks_provider entry ≡ false)
-  end-trouble calm over row entry doomed at =
-      let found = over-clean run history (other_mode row doomed) calm over in
+  -- where the run is over and no problem stands, a row that is to go is not protected
+  pub end-unprotected : has_problem known ≡ false → is_over known ≡ true → (row : ℕ) (entry : Entry)
+      → is_doomed known row ≡ true → row_at known row ≡ Some entry → entry.protect ≡ false
+  end-unprotected calm over row entry doomed at =
+      let found = over-clean run spelling history legal (other_mode row doomed) calm over in
       let told : Known = known_of run found.0 in
-      let clean = clean_parts (known_of run found.0) found.1.clean in
-      let there : row_at told row ≡ Some entry = row_then found.0 row ∙ at in
-      let goes : is_doomed told row ≡ true = doomed_then found.0 found.1 row doomed in (
-        second_fails (is_doomed told row) entry.protect
-            (row_fails told problem.Protected (λ number it. is_doomed told number && it.protect) row entry clean.unprotected there) goes,
-        second_fails (is_doomed told row) (lacks_provider entry)
-            (row_fails told problem.MissingProvider (λ number it. is_doomed told number && lacks_provider it) row entry clean.provided there) goes,
-      )
+      let clean = clean_parts told found.1.clean in
+      second_fails (is_doomed told row) entry.protect
+      (row_fails told problem.Protected (λ number it. is_doomed told number && it.protect) row entry clean.unprotected (row_then found.0 row ∙ at))
+      (doomed_then found.0 found.1 row doomed)
+
+  -- and it has its provider, where it must be sent for
+  pub end-provided : is_preview run.mode ≡ false → KeepsApart (rows_of run) → has_problem known ≡ false → is_over known ≡ true
+      → (row : ℕ) (entry : Entry) → is_doomed known row ≡ true → row_at known row ≡ Some entry → lacks_provider known row ≡ false
+  end-provided real apart calm over row entry doomed at =
+      let found = over-clean run spelling history legal (other_mode row doomed) calm over in
+      let told : Known = known_of run found.0 in
+      let clean = clean_parts told found.1.clean in
+      provided-later run spelling history legal found.0 found.1.later found.1.legal real apart row (doomed-parts known row doomed).left
+      (second_fails (is_doomed told row) (lacks_provider told row)
+      (row_fails told problem.MissingProvider (λ number it. is_doomed told number && lacks_provider told number) row entry clean.provided
+      (row_then found.0 row ∙ at))
+      (doomed_then found.0 found.1 row doomed))
 
   -- and a row that is left and refers to it is one that is to be deleted
   pub end-held : has_problem known ≡ false → is_over known ≡ true → (later earlier : ℕ) → is_left known later ≡ true
       → refers_to (rows_of run) later earlier ≡ true → is_doomed known earlier ≡ true → is_target known later ≡ true
   end-held calm over later earlier left refers doomed =
-      let found = over-clean run history (other_mode earlier doomed) calm over in
+      let found = over-clean run spelling history legal (other_mode earlier doomed) calm over in
       let told : Known = known_of run found.0 in
       let clean = clean_parts (known_of run found.0) found.1.clean in
       let there : refers_to (rows_of told.run) later earlier ≡ true =

@@ -1,5 +1,5 @@
 -- Each row of a state finds what it refers to among the rows before it.
-use Rattle.std.proofs.Common.{◌≡◌, ℕ, zero, suc, ◌+◌, ◌<◌, ◌≤◌, Bool, true, false, ◌||◌, cond, IfSome, List, [], ◌∷◌, ◌++◌, filter, filter_map, get_or, length, map, nat_lt, option_map, reverse, slice_get, take, Option, Some, None, refl, sym, ◌∙◌, ap, subst, inl, inr, ◌⊎◌, arith, eq-or-lt_of_le}
+use Rattle.std.proofs.Common.{◌≡◌, ℕ, zero, suc, ◌+◌, ◌<◌, ◌≤◌, Bool, true, false, ◌||◌, cond, IfSome, List, [], ◌∷◌, ◌++◌, filter, filter_map, get_or, length, nat_lt, option_map, reverse, slice_get, take, Option, Some, None, refl, sym, ◌∙◌, ap, subst, inl, inr, ◌⊎◌, arith, eq-or-lt_of_le}
 use Rattle.std.proofs.lemmas.Bool.Decides.{nat_tests}
 use Rattle.std.proofs.lemmas.List.{append-nil, reverse-append}
 use Rattle.std.proofs.lemmas.List.Folds.{list_any-append}
@@ -7,15 +7,17 @@ use Rattle.std.proofs.lemmas.Option.{get_or_from_slice_get, slice_get-get_or, sl
 use Rattle.std.proofs.lemmas.Slice.Eq.{bytes_eq-Decides}
 use Rattle.std.specs.List.{cons_option, list_any, range_with_len}
 use Rattle.std.specs.Option.{option_or}
-use Rattle.pl_urn.specs.Grammar.{IsScope}
 use Rattle.pl_reference.specs.declared.reference.ProviderRef.{ProviderRef}
-use Rattle.pl_state.specs.Chain.{names_row, refers_to}
+use Rattle.pl_state.specs.Chain.{refers_to}
 use Rattle.pl_state.specs.Kinds.{is_of_provider, is_provider_goal, is_provider_row}
-use Rattle.pl_state.specs.Sound.{IsSound, has_urn, is_id, is_provider}
+use Rattle.pl_state.specs.References.{has_urn, is_id, is_provider, meets, names_row, refs}
+use Rattle.pl_state.specs.Sound.{IsSound, is_met}
 use Rattle.pl_state.specs.declared.entry.Entry.{Entry}
+use Rattle.pl_state.specs.declared.fault.Missing.{Missing}
+use Rattle.pl_state.specs.declared.fault.Missing.TheVariants.{Twice, Parent, Provider, Dependency, DeletedWith}
 use Rattle.pl_state.specs.declared.goal.Goal.{Goal}
 use Rattle.pl_events.specs.declared.event.Event.{Event}
-use Rattle.pl_model.specs.Run.{Fixed, Spelling, is_preview, is_refresh, rows_of}
+use Rattle.pl_model.specs.Run.{Fixed, HasNames, Spelling, is_preview, is_refresh, rows_of}
 use Rattle.pl_options.specs.Names.{id_text}
 use Rattle.pl_model.specs.Claims.{Decided, claimed_row, id_of_row, is_row, is_usable, usable_id}
 use Rattle.pl_model.specs.Entries.{new_entries, old_entries, old_row, recorded_entry, row_now, turnings}
@@ -37,13 +39,12 @@ use Rattle.pl_model_laws.proofs.Provided.{providers-provide}
 use Rattle.pl_model_laws.proofs.Providers.{provider-id}
 use Rattle.pl_model_laws.proofs.Recorded.{recorded-held}
 use Rattle.pl_model_laws.proofs.Referring.{Held, ProvidersProvide, entry_met, new-met}
-use Rattle.pl_model_laws.proofs.Sounding.{AreMet, RefersBack, any_found, references, refers-more, refers-none, sound-apart, sound-back, sound-from}
+use Rattle.pl_model_laws.proofs.Sounding.{AreMet, RefersBack, any_found, refers-more, refers-none, sound-apart, sound-back, sound-from}
 use Rattle.pl_model_laws.proofs.Standing.{claim-of-decided, entry-there, recording-there}
 use Rattle.pl_model_laws.proofs.TakenOver.{all-decided, taken-turned}
-use Rattle.pl_model_laws.proofs.Turning.{row-turned, turned_by}
+use Rattle.pl_model_laws.proofs.Turning.{IsTurned, row-turned, turned_by}
 use Rattle.pl_model_laws.proofs.TurningProviders.{provider-turned}
-use Rattle.pl_model_laws.proofs.Wants.{MeetsKinds, each_map, each_names, kinds_met, met_by_kinds, met_by_tests, named_dependency, named_parent, named_property, named_provider}
-use Rattle.pl_model_laws.proofs.Staying.{some_same}
+use Rattle.pl_model_laws.proofs.Wants.{IsReference, changed_reference, each_map, each_provider, met_by_tests, refs_are, refs_name, refs_turned}
 
 append_twice : {X : Type 0} (xs ys zs : List X) → (xs ++ ys) ++ zs ≡ xs ++ (ys ++ zs)
 append_twice [] ys zs = refl
@@ -326,52 +327,59 @@ module _ (run : Fixed) (spelling : Spelling) (history : List Event) (real : is_p
     both_each P Q R f [] h k = tt
     both_each P Q R f (x ∷ xs) h k = (f x h.0 k.0, both_each P Q R f xs h.1 k.1)
 
-    -- the row as it stands now finds what it refers to
-    old_met : AreMet (before place) (references (row_now now place row))
-    old_met =
-        let base : MeetsKinds (take place (rows_of run)) row = kinds_met (take place (rows_of run)) row (sound-back (rows_of run) sound place row here) in
-        met_by_kinds (before place) (row_now now place row) (record {
-          parent = λ urn is. from_parent row.parent refl base urn (sym (row-turned (turnings now) row).parent ∙ is);
-          provider = λ reference is. from_provider row.provider refl base reference (sym (row-turned (turnings now) row).provider ∙ is);
-          dependencies = subst (λ (urns : List (List ℕ)). Each (λ urn. list_any (has_urn urn) (before place) ≡ true) urns) (sym (row-turned (turnings now) row).dependencies)
-              (each_map turn (λ urn. list_any (has_urn urn) (before place) ≡ true) row.dependencies
-              (both_each (λ urn. list_any (has_urn urn) (take place (rows_of run)) ≡ true)
-              (λ urn. (other : Entry) → has_urn urn other ≡ true → list_any (λ u. has_urn u other) row.dependencies ≡ true)
-              (λ urn. list_any (has_urn (turn urn)) (before place) ≡ true)
-              (λ urn met names. urn_again urn met (λ other has. named_dependency row other (names other has)))
-              row.dependencies base.dependencies (each_names (λ urn other. has_urn urn other) row.dependencies)));
-          property_dependencies = subst (λ (pairs : List (List ℕ × List (List ℕ))). Each (λ (pair : List ℕ × List (List ℕ)). Each (λ urn. list_any (has_urn urn) (before place) ≡ true) pair.1) pairs)
-              (sym (row-turned (turnings now) row).property_dependencies)
-              (each_map (λ (pair : List ℕ × List (List ℕ)). (pair.0, map turn pair.1)) (λ (pair : List ℕ × List (List ℕ)). Each (λ urn. list_any (has_urn urn) (before place) ≡ true) pair.1) row.property_dependencies
-              (both_each (λ (pair : List ℕ × List (List ℕ)). Each (λ urn. list_any (has_urn urn) (take place (rows_of run)) ≡ true) pair.1)
-              (λ (pair : List ℕ × List (List ℕ)). (other : Entry) → list_any (λ urn. has_urn urn other) pair.1 ≡ true
-              → list_any (λ (one : List ℕ × List (List ℕ)). list_any (λ urn. has_urn urn other) one.1) row.property_dependencies ≡ true)
-              (λ (pair : List ℕ × List (List ℕ)). Each (λ urn. list_any (has_urn urn) (before place) ≡ true) (map turn pair.1))
-              (λ pair met names. each_map turn (λ urn. list_any (has_urn urn) (before place) ≡ true) pair.1
-              (both_each (λ urn. list_any (has_urn urn) (take place (rows_of run)) ≡ true)
-              (λ urn. (other : Entry) → has_urn urn other ≡ true → list_any (λ u. has_urn u other) pair.1 ≡ true)
-              (λ urn. list_any (has_urn (turn urn)) (before place) ≡ true)
-              (λ urn reached own. urn_again urn reached (λ other has. named_property row other (names other (own other has))))
-              pair.1 met (each_names (λ urn other. has_urn urn other) pair.1)))
-              row.property_dependencies base.property_dependencies
-              (each_names (λ (pair : List ℕ × List (List ℕ)) (other : Entry). list_any (λ urn. has_urn urn other) pair.1) row.property_dependencies)));
-        })
-      where
-        from_parent : (o : Option (List ℕ)) → row.parent ≡ o → MeetsKinds (take place (rows_of run)) row → (urn : List ℕ) → option_map turn row.parent ≡ Some urn
-            → list_any (has_urn urn) (before place) ≡ true
-        from_parent None is base urn turned = absurd (let e : None ≡ Some urn = sym (ap (λ (p : Option (List ℕ)). option_map turn p) is) ∙ turned in cc)
-        from_parent (Some old) is base urn turned =
-            subst (λ (text : List ℕ). list_any (has_urn text) (before place) ≡ true)
-            (some_same (turn old) urn (sym (ap (λ (p : Option (List ℕ)). option_map turn p) is) ∙ turned))
-            (urn_again old (base.parent old is) (λ other has. named_parent row other old is has))
+    -- a provider reference among those of a row is a proper one
+    abbrev Proper : Missing → Type 0
+    Proper (Provider reference) = NamesProvider reference
+    Proper _ = Unit
 
-        from_provider : (o : Option ProviderRef) → row.provider ≡ o → MeetsKinds (take place (rows_of run)) row → (reference : ProviderRef)
-            → option_map turned_to row.provider ≡ Some reference → list_any (is_provider reference) (before place) ≡ true
-        from_provider None is base reference turned = absurd (let e : None ≡ Some reference = sym (ap (λ (p : Option ProviderRef). option_map turned_to p) is) ∙ turned in cc)
-        from_provider (Some old) is base reference turned =
-            subst (λ (one : ProviderRef). list_any (is_provider one) (before place) ≡ true)
-            (some_same (turned_to old) reference (sym (ap (λ (p : Option ProviderRef). option_map turned_to p) is) ∙ turned))
-            (provider_again old (proper_reference old is) (base.provider old is) (λ other has. named_provider row other old is has))
+    proper_refs : Each Proper (refs row)
+    proper_refs = each_provider Proper row (λ urn. tt) (λ urn. tt) (λ urn. tt) proper_reference
+
+    -- a reference that a row before met is, turned, met by an entry before
+    met_again : (want : Missing) → IsReference want → is_met (take place (rows_of run)) want ≡ true
+        → ((other : Entry) → meets want other ≡ true → names_row row other ≡ true) → Proper want
+        → is_met (before place) (changed_reference turn want) ≡ true
+    met_again (Twice urn) is met names proper = absurd is
+    met_again (Parent urn) is met names proper = urn_again urn met names
+    met_again (Provider reference) is met names proper = provider_again reference proper met names
+    met_again (Dependency urn) is met names proper = urn_again urn met names
+    met_again (DeletedWith urn) is met names proper = urn_again urn met names
+
+    -- what is needed of a reference to meet it again
+    abbrev Ready : Missing → Type 0
+    Ready want = IsReference want × ((other : Entry) → meets want other ≡ true → names_row row other ≡ true) × Proper want
+
+    ready_refs : Each Ready (refs row)
+    ready_refs =
+        both_each IsReference (λ (want : Missing). ((other : Entry) → meets want other ≡ true → names_row row other ≡ true) × Proper want) Ready
+        (λ want is more. (is, more.0, more.1)) (refs row) (refs_are row)
+        (both_each (λ (want : Missing). (other : Entry) → meets want other ≡ true → names_row row other ≡ true) Proper
+        (λ (want : Missing). ((other : Entry) → meets want other ≡ true → names_row row other ≡ true) × Proper want)
+        (λ want names proper. (names, proper)) (refs row) (refs_name row) proper_refs)
+
+    -- the row as it stands now is turned
+    turned_now : IsTurned (turnings now) row (row_now now place row)
+    turned_now =
+        let turns = row-turned (turnings now) row in
+        record {
+          urn = turns.urn;
+          id = turns.id;
+          parent = turns.parent;
+          provider = turns.provider;
+          dependencies = turns.dependencies;
+          property_dependencies = turns.property_dependencies;
+          deleted_with = turns.deleted_with;
+        }
+
+    -- the row as it stands now finds what it refers to
+    old_met : AreMet (before place) (refs (row_now now place row))
+    old_met =
+        subst (λ (wants : List Missing). AreMet (before place) wants)
+        (sym (refs_turned (turnings now) row (row_now now place row) turned_now))
+        (each_map (changed_reference turn) (λ (want : Missing). is_met (before place) want ≡ true) (refs row)
+        (both_each (λ (want : Missing). is_met (take place (rows_of run)) want ≡ true) Ready
+        (λ (want : Missing). is_met (before place) (changed_reference turn want) ≡ true)
+        (λ want met ready. met_again want ready.0 met ready.1 ready.2) (refs row) (sound-back (rows_of run) sound place row here) ready_refs))
 
   -- ---- all of them
 
@@ -410,13 +418,13 @@ module _ (run : Fixed) (spelling : Spelling) (history : List Event) (real : is_p
 -- ---- states
 
 module _ (run : Fixed) (spelling : Spelling) (history : List Event)
-    (stack : IsScope run.stack) (project : IsScope run.project) (real : is_preview run.mode ≡ false)
+    (names : HasNames run) (real : is_preview run.mode ≡ false)
     (sound : IsSound (rows_of run)) (named : NameProviders (rows_of run)) (legal : IsLegal run spelling history) where
   pub states-sound : RecordedAfterReferences → is_refresh run.mode ≡ false → IsSound (state_of run history).entries
   states-sound after other =
       let apart : KeepsApart (rows_of run) = sound-apart (rows_of run) sound in
-      subst (λ (rows : List Entry). IsSound rows) (sym (entries_merged run spelling history stack project real apart legal other))
+      subst (λ (rows : List Entry). IsSound rows) (sym (entries_merged run spelling history names real apart legal other))
       (sound-from (new_entries (known_of run history) ++ old_entries (known_of run history))
       (all_back run spelling history real sound named legal (is_left (known_of run history)) (λ place left. left)
-      (λ later earlier there refers left. left) after (providers-provide run history stack project))
-      (merged_apart run spelling history stack project real apart legal))
+      (λ later earlier there refers left. left) after (providers-provide run spelling history names legal))
+      (merged_apart run spelling history names real apart legal))

@@ -1,11 +1,10 @@
 -- Two entries of a state that are to stay have URNs of their own.
 use Rattle.std.proofs.Common.{◌≡◌, ◌≢◌, ℕ, ◌<◌, ◌≤◌, ◌==◌, Bool, true, false, List, [], ◌∷◌, ◌++◌, filter, get_or, if◌then◌else◌, length, option_map, reverse, slice_get, Option, Some, None, is_some, refl, sym, ◌∙◌, ap, subst}
 use Rattle.std.proofs.lemmas.Option.{get_or_from_slice_get, slice_get_within}
-use Rattle.pl_urn.specs.Grammar.{IsScope}
 use Rattle.pl_state.specs.declared.entry.Entry.{Entry}
 use Rattle.pl_state.specs.declared.goal.Goal.{Goal}
 use Rattle.pl_events.specs.declared.event.Event.{Event}
-use Rattle.pl_model.specs.Run.{Fixed, Spelling, is_preview, is_refresh, rows_of}
+use Rattle.pl_model.specs.Run.{Fixed, HasNames, Spelling, is_preview, is_refresh, rows_of}
 use Rattle.pl_model.specs.Claims.{Decided, is_row}
 use Rattle.pl_model.specs.Entries.{new_entries, old_entries, old_row, recorded_entry, row_now}
 use Rattle.pl_model.specs.History.{known_of}
@@ -36,7 +35,7 @@ each_there all (n ∷ numbers) within =
     (within n (rw (same_number n) refl), each_there all numbers (λ m there. within m (rw there (or_true (n == m)))))
 
 module _ (run : Fixed) (spelling : Spelling) (history : List Event)
-    (stack : IsScope run.stack) (project : IsScope run.project) (real : is_preview run.mode ≡ false)
+    (names : HasNames run) (real : is_preview run.mode ≡ false)
     (apart : KeepsApart (rows_of run)) (legal : IsLegal run spelling history) where
   abbrev known : Known
   known = known_of run history
@@ -80,7 +79,7 @@ module _ (run : Fixed) (spelling : Spelling) (history : List Event)
       (λ m n first second other y z is too. λ stays also same.
       let a = has_goal m y first is in
       let b = has_goal n z second too in
-      other (goals-apart run history m n a.goal b.goal stack project a.stands b.stands (sym a.urn ∙ same ∙ b.urn)))
+      other (goals-apart run spelling history m n a.goal b.goal names legal a.stands b.stands (sym a.urn ∙ same ∙ b.urn)))
       numbers recorded_each numbers_apart)
 
   -- ---- old entries

@@ -141,7 +141,7 @@ first_stays seat (Begun ticket to about) past lane errand h =
 first_stays seat _ past lane errand h = h
 
 -- and so its source stays
-source_stays : (seat : ℕ) (what : What) (past : List Event) (lane : ℕ) (wanted : Source) → lane_source past lane ≡ Some wanted
+pub source_stays : (seat : ℕ) (what : What) (past : List Event) (lane : ℕ) (wanted : Source) → lane_source past lane ≡ Some wanted
     → lane_source (record { seat = seat; what = what } ∷ past) lane ≡ Some wanted
 source_stays seat what past lane wanted h = by (first_on past lane) refl h
   where
@@ -152,7 +152,7 @@ source_stays seat what past lane wanted h = by (first_on past lane) refl h
         ap (λ (o : Option Errand). option_and_then (λ errand. source_begun errand.op) o) (first_stays seat what past lane errand is) ∙ h
 
 -- nothing was begun on the next lane
-next_unused : (past : List Event) → first_on past (lane_count past) ≡ None
+pub next_unused : (past : List Event) → first_on past (lane_count past) ≡ None
 next_unused past =
     find_none (λ errand. errand.lane == lane_count past) (reverse (begun_of past))
     (each-reverse (λ errand. (errand.lane == lane_count past) ≡ false) (begun_of past)
@@ -163,7 +163,7 @@ next_unused past =
     apart a b h = grind (arith, nat_tests)
 
 -- the source of a new lane is that of its operation
-next_source : (seat ticket : ℕ) (about : Op) (past : List Event)
+pub next_source : (seat ticket : ℕ) (about : Op) (past : List Event)
     → lane_source (record { seat = seat; what = Begun ticket (lane_count past) about } ∷ past) (lane_count past) ≡ source_begun about
 next_source seat ticket about past =
     ap (λ (o : Option Errand). option_and_then (λ errand. source_begun errand.op) o)

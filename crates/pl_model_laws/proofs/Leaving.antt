@@ -1,4 +1,4 @@
--- Which rows are claimed, and that a row that went does not come back.
+-- Which rows are claimed, and which are left.
 use Rattle.std.proofs.Common.{◌≡◌, ℕ, ◌+◌, suc, ◌==◌, ◌<◌, ◌≤◌, Bool, true, false, not, ◌&&◌, ◌||◌, if◌then◌else◌, cond, List, [], ◌∷◌, ◌++◌, length, get_or, reverse, Option, Some, None, is_some, refl, sym, ◌∙◌, ap, subst, inl, inr, ◌⊎◌, arith, bytes_eq, filter_map, find, fold, nat_lt, slice_get, option_map, option_and_then}
 use Rattle.std.proofs.lemmas.Bool.{cases_lt}
 use Rattle.std.proofs.lemmas.List.{reverse-append}
@@ -9,7 +9,7 @@ use Rattle.std.specs.List.{AllByRecursion, cons_option, enumerate_from}
 use Rattle.std.specs.Option.{option_or}
 use Rattle.pl_state.specs.Chain.{some_passes}
 use Rattle.pl_state.specs.Kinds.{is_provider_goal, is_provider_row}
-use Rattle.pl_state.specs.Sound.{has_urn}
+use Rattle.pl_state.specs.References.{has_urn}
 use Rattle.pl_state.specs.declared.entry.Entry.{Entry}
 use Rattle.pl_state.specs.declared.goal.Goal.{Goal}
 use Rattle.pl_state.specs.declared.goal.Diffed.{Diffed}
@@ -22,13 +22,13 @@ use Rattle.pl_model.specs.Decisions.{Turn, checked_at, decided_by, decided_next,
 use Rattle.pl_model.specs.Entries.{Turning, old_row, row_now, turned, turned_entry, turning_of, turnings}
 use Rattle.pl_model.specs.History.{known_of}
 use Rattle.pl_model.specs.Known.{Known, claim_of, claim_row, decided_goal, goal_at, is_recorded, next_turn, turn_of_goal}
-use Rattle.pl_model.specs.Rows.{is_left, is_marked, is_replaced, is_taken_over, recorded_claimer, row_at, stands_beside}
+use Rattle.pl_model.specs.Rows.{is_left, is_marked, is_replaced, is_taken_out, is_taken_over, recorded_claimer, row_at, stands_beside}
 use Rattle.pl_model_laws.specs.Apart.{AreApart, KeepsApart}
 use Rattle.pl_model_laws.proofs.Growing.{decided_as, decisions-stay, equal_numbers, numbered_below, numbered_more, or_true, other_numbers, recordings-stay, run_of, same_number}
 use Rattle.pl_model_laws.proofs.Once.{history_of}
 
 -- what is never so later was never so before
-not_earlier : (later earlier : Bool) → (earlier ≡ true → later ≡ true) → later ≡ false → earlier ≡ false
+pub not_earlier : (later earlier : Bool) → (earlier ≡ true → later ≡ true) → later ≡ false → earlier ≡ false
 not_earlier later false stays h = refl
 not_earlier later true stays h = absurd (let e : true ≡ false = sym (stays refl) ∙ h in cc)
 
@@ -213,7 +213,7 @@ claimer_is run (newest ∷ earlier) number row one apart h claims =
     by false is false at rest h = rest h claims
 
 -- the goal that claims a row, with what is decided of it
-claimer_found : (decided : List Decided) (row number : ℕ) → claimer_of decided row ≡ Some number
+pub claimer_found : (decided : List Decided) (row number : ℕ) → claimer_of decided row ≡ Some number
     → (one : Decided) × (numbered decided number ≡ Some one) × (is_row one.claim row ≡ true)
 claimer_found [] row number h = absurd (let e : None ≡ Some number = h in cc)
 claimer_found (newest ∷ earlier) row number h = by (is_row newest.claim row) refl (claimer_found earlier row number) h
@@ -250,7 +250,7 @@ claimed-once run history a b one other row first second claims too =
 -- ---- rows that are taken over or replaced
 
 -- a test that the recorded goal passes that claims a row
-claimer_passes : (known : Known) (row number : ℕ) (test : ℕ → Bool) → claimer_of known.decided row ≡ Some number
+pub claimer_passes : (known : Known) (row number : ℕ) (test : ℕ → Bool) → claimer_of known.decided row ≡ Some number
     → is_recorded known number ≡ true → some_passes test (recorded_claimer known row) ≡ test number
 claimer_passes known row number test claims recorded =
     ap (λ (o : Option ℕ).
@@ -284,7 +284,7 @@ left_parts true true taken h = absurd (let e : false ≡ true = h in cc)
 left_parts false gone taken h = absurd (let e : false ≡ true = h in cc)
 
 -- and such a row is left
-left_made : (below gone taken : Bool) → below ≡ true → gone ≡ false → taken ≡ false → (below && not gone && not taken) ≡ true
+pub left_made : (below gone taken : Bool) → below ≡ true → gone ≡ false → taken ≡ false → (below && not gone && not taken) ≡ true
 left_made true false false here stays free = refl
 left_made true false true here stays free = absurd (let e : true ≡ false = free in cc)
 left_made true true taken here stays free = absurd (let e : true ≡ false = stays in cc)
@@ -305,7 +305,7 @@ claimed_marked run known number one row apart decided claims recorded left = by 
         (claimer_passes known row number (stands_beside known) claimer recorded ∙ is)
         ∙ or_true (some_passes (λ (entry : Entry). entry.doomed) (row_at known row))
     by false is =
-        let parts = left_parts (nat_lt row (length (rows_of known.run))) (has_number (removed_of known.history) row)
+        let parts = left_parts (nat_lt row (length (rows_of known.run))) (is_taken_out known row)
         (is_taken_over known row) left in
         let taken : is_taken_over known row ≡ true =
         claimer_passes known row number (λ (goal : ℕ). not (stands_beside known goal)) claimer recorded
@@ -337,7 +337,7 @@ module _ (run : Fixed) (event : Event) (past : List Event) where
       told_stays (λ (events : List Event). has_number (recorded_of events) number ≡ true)
       (recordings-stay run event past number)
 
-  -- a row that was taken out stays so
+  -- a row that was deleted or dropped stays so
   pub removed_more : (row : ℕ) → has_number (removed_of past) row ≡ true → has_number (removed_of (event ∷ past)) row ≡ true
   removed_more row h = by (removed_by past event.what)
     where
@@ -345,12 +345,13 @@ module _ (run : Fixed) (event : Event) (past : List Event) where
       by None = h
       by (Some other) = ap (λ (b : Bool). (other == row) || b) h ∙ or_true (other == row)
 
-  removed_stays : (row : ℕ) → has_number (removed_of before.history) row ≡ true
+  -- nor does it come back in what the history tells
+  pub removed_stays : (row : ℕ) → has_number (removed_of before.history) row ≡ true
       → has_number (removed_of after.history) row ≡ true
   removed_stays row = told_stays (λ (events : List Event). has_number (removed_of events) row ≡ true) (removed_more row)
 
   -- a recorded goal that claims a row does so ever after, and stands beside it as before
-  claimer_stays : (row : ℕ) (test : Bool → Bool)
+  pub claimer_stays : (row : ℕ) (test : Bool → Bool)
       → some_passes (λ (goal : ℕ). test (stands_beside before goal)) (recorded_claimer before row) ≡ true
       → some_passes (λ (goal : ℕ). test (stands_beside after goal)) (recorded_claimer after row) ≡ true
   claimer_stays row test h =
@@ -364,20 +365,8 @@ module _ (run : Fixed) (event : Event) (past : List Event) where
       claimer_passes after row parts.0 (λ (goal : ℕ). test (stands_beside after goal)) claimer (recorded_stays parts.0 parts.2)
       ∙ ap (λ (b : Bool). test b) beside ∙ parts.3
 
-  same_run : after.run ≡ before.run
+  pub same_run : after.run ≡ before.run
   same_run = run_of run (event ∷ past) ∙ sym (run_of run past)
-
-  -- a row that is left was left before
-  pub left-before : (row : ℕ) → is_left after row ≡ true → is_left before row ≡ true
-  left-before row h =
-      let parts = left_parts (nat_lt row (length (rows_of after.run))) (has_number (removed_of after.history) row)
-      (is_taken_over after row) h in
-      left_made (nat_lt row (length (rows_of before.run))) (has_number (removed_of before.history) row)
-      (is_taken_over before row)
-      (subst (λ (fixed : Fixed). nat_lt row (length (rows_of fixed)) ≡ true) same_run parts.0)
-      (not_earlier (has_number (removed_of after.history) row) (has_number (removed_of before.history) row)
-      (removed_stays row) parts.1)
-      (not_earlier (is_taken_over after row) (is_taken_over before row) (claimer_stays row not) parts.2)
 
   -- a row that is not marked was not marked before
   pub unmarked-before : (row : ℕ) → is_marked after row ≡ false → is_marked before row ≡ false

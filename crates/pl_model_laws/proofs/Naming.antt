@@ -1,7 +1,6 @@
 -- What a goal of a request refers to are goals before it, and one that is provided for has its provider.
 use Rattle.std.proofs.Common.{◌≡◌, ℕ, ◌<◌, ◌≤◌, Bool, true, false, not, ◌&&◌, cond, if◌then◌else◌, List, [], ◌∷◌, ◌++◌, length, bytes_eq, filter, Option, Some, None, is_none, is_some, Ok, Err, refl, sym, ◌∙◌, ap, subst, arith, option_map, option_and_then}
 use Rattle.std.proofs.lemmas.Slice.Eq.{bytes_eq-Decides}
-use Rattle.std.specs.List.{flat_map}
 use Rattle.std.specs.Option.{option_or}
 use Rattle.pl_urn.specs.Grammar.{IsScope, child_fault, package_of}
 use Rattle.pl_options.specs.GoalOf.{GoalResult, given, goal_of}
@@ -18,13 +17,15 @@ use Rattle.pl_events.specs.declared.event.What.{What}
 use Rattle.pl_events.specs.declared.event.What.TheVariants.{Told}
 use Rattle.pl_decide.specs.declared.problem.Problem.{Problem}
 use Rattle.pl_decide.specs.declared.problem.Problem.TheVariants.{BadOption, DuplicateUrn, UnknownReference}
-use Rattle.pl_model.specs.Run.{Fixed}
+use Rattle.pl_model.specs.Run.{Fixed, HasNames, Spelling}
 use Rattle.pl_model.specs.Claims.{goal_number}
 use Rattle.pl_model.specs.History.{goals_after, known_of}
 use Rattle.pl_model.specs.Known.{halted, Known, has_problem}
-use Rattle.pl_model.specs.Requests.{default_goal, default_urn, fate_by, fate_of, first_in, goal_refusal, goals_by, goals_made, has_goal, has_id, invoke_refusal, invoked_version, is_bad_default, is_met, is_met_reference, named_provider, option_list, refusal_of, refused_if, result_refusal, token_package, unknown_references, uses_default, with_default, with_goal, with_invoked, with_provider, with_result}
-use Rattle.pl_model_laws.proofs.Distinct.{IsAllowed-from_refusal, IsFree, default_is_provider, none_left, not_refused, or_none}
-use Rattle.pl_model_laws.proofs.Growing.{numbered_below, run_of}
+use Rattle.pl_model.specs.Legal.{IsLegal, MayHappen}
+use Rattle.pl_state.specs.References.{further_urns, option_list}
+use Rattle.pl_model.specs.Requests.{default_goal, default_urn, fate_by, fate_of, first_in, goal_refusal, goals_by, goals_made, has_goal, has_id, invoke_refusal, invoked_version, is_bad_default, is_met, is_met_reference, named_provider, refusal_of, refused_if, result_refusal, token_package, unknown_references, uses_default, with_default, with_goal, with_invoked, with_provider, with_result}
+use Rattle.pl_model_laws.proofs.Distinct.{IsAllowed-from_refusal, IsFree, default_is_provider, names-there, none_left, not_refused, or_none, told-names}
+use Rattle.pl_model_laws.proofs.Growing.{numbered_below}
 use Rattle.pl_model_laws.proofs.Pairs.{Each, each-weaker}
 use Rattle.pl_model_laws.proofs.Referring.{number_found}
 use Rattle.pl_model_laws.proofs.Standing.{some_there}
@@ -58,23 +59,6 @@ none_fails {X = X} test (x ∷ xs) h = by (test x) refl h (none_fails test xs)
     by true is h rest = (is, rest h)
     by false is h rest = absurd (let e : x ∷ filter (λ (y : X). not (test y)) xs ≡ [] = h in cc)
 
-each_front : {X : Type 0} (P : X → Type 0) (xs ys : List X) → Each P (xs ++ ys) → Each P xs
-each_front P [] ys h = tt
-each_front P (x ∷ xs) ys h = (h.0, each_front P xs ys h.1)
-
-each_back : {X : Type 0} (P : X → Type 0) (xs ys : List X) → Each P (xs ++ ys) → Each P ys
-each_back P [] ys h = h
-each_back P (x ∷ xs) ys h = each_back P xs ys h.1
-
--- what holds of each of several lists in a row, holds of each of each list
-each_of_pairs : {X Y : Type 0} (P : Y → Type 0) (pairs : List (X × List Y)) → Each P (flat_map (λ pair. pair.1) pairs)
-    → Each (λ pair. Each P pair.1) pairs
-each_of_pairs P [] h = tt
-each_of_pairs P (pair ∷ pairs) h = (
-  each_front P pair.1 (flat_map (λ one. one.1) pairs) h,
-  each_of_pairs P pairs (each_back P pair.1 (flat_map (λ one. one.1) pairs) h),
-)
-
 -- what is not missing is there
 there_not : {X : Type 0} (o : Option X) → is_none o ≡ false → (x : X) × (o ≡ Some x)
 there_not None h = absurd (let e : true ≡ false = h in cc)
@@ -90,8 +74,7 @@ IsBelow goals n urn = (m : ℕ) × (goal_number goals urn ≡ Some m) × (m < n)
 pub record RefersBelow (goals : List Goal) (n : ℕ) (goal : Goal) : Type 0 where
   pub parent : (urn : List ℕ) → goal.parent ≡ Some urn → IsBelow goals n urn
   pub provider : (m : ℕ) → goal.provider ≡ Some m → m < n
-  pub dependencies : Each (IsBelow goals n) goal.dependencies
-  pub properties : Each (λ pair. Each (IsBelow goals n) pair.1) goal.property_dependencies
+  pub further : Each (IsBelow goals n) (further_urns goal)
   pub provided : is_provided goal ≡ true → is_some goal.provider ≡ true
 
 -- each goal refers to goals behind it
@@ -131,8 +114,7 @@ refers_default : (known : Known) (provided : List ℕ) (version : Option (List �
 refers_default known provided version goals n provider = record {
   parent = λ urn is. absurd (let e : None ≡ Some urn = is in cc);
   provider = λ m is. absurd (let e : None ≡ Some m = is in cc);
-  dependencies = tt;
-  properties = tt;
+  further = tt;
   provided = λ h. absurd (let e : false ≡ true = sym (ap (λ (b : Bool). not b) provider) ∙ h in cc);
 }
 
@@ -186,7 +168,7 @@ met_named known text h =
 record AreKnown (known : Known) (told : Registration) (goal : Goal) : Type 0 where
   parents : Each (λ urn. has_goal known urn ≡ true) (option_list goal.parent)
   providers : Each (λ text. is_met_reference known text ≡ true) (option_list (given told.provider))
-  others : Each (λ urn. has_goal known urn ≡ true) (goal.dependencies ++ flat_map (λ pair. pair.1) goal.property_dependencies)
+  others : Each (λ urn. has_goal known urn ≡ true) (further_urns goal)
 
 known_references : (known : Known) (told : Registration) (goal : Goal) → goal_refusal known told goal ≡ None → AreKnown known told goal
 known_references known told goal h =
@@ -202,7 +184,7 @@ known_references known told goal h =
     record {
       parents = none_fails (has_goal known) (option_list goal.parent) first.0;
       providers = none_fails (is_met_reference known) (option_list (given told.provider)) second.0;
-      others = none_fails (has_goal known) (goal.dependencies ++ flat_map (λ pair. pair.1) goal.property_dependencies) second.1;
+      others = none_fails (has_goal known) (further_urns goal) second.1;
     }
 
 -- the references of such a registration, where each goal that there is counts as below
@@ -212,19 +194,17 @@ module _ (known : Known) (told : Registration) (goal : Goal) (are_known : AreKno
   parent_below urn is =
       below urn (subst (λ (o : Option (List ℕ)). Each (λ text. has_goal known text ≡ true) (option_list o)) is are_known.parents).0
 
-  others_below : Each (IsBelow goals n) (goal.dependencies ++ flat_map (λ pair. pair.1) goal.property_dependencies)
+  others_below : Each (IsBelow goals n) (further_urns goal)
   others_below =
       each-weaker (λ (urn : List ℕ). has_goal known urn ≡ true) (IsBelow goals n) below
-      (goal.dependencies ++ flat_map (λ pair. pair.1) goal.property_dependencies) are_known.others
+      (further_urns goal) are_known.others
 
   refers_registered : (own : Option ℕ) → ((m : ℕ) → own ≡ Some m → m < n) → (is_provided goal ≡ true → is_some own ≡ true)
       → RefersBelow goals n (record goal { provider = own })
   refers_registered own low provides = record {
     parent = parent_below;
     provider = low;
-    dependencies = each_front (IsBelow goals n) goal.dependencies (flat_map (λ pair. pair.1) goal.property_dependencies) others_below;
-    properties = each_of_pairs (IsBelow goals n) goal.property_dependencies
-        (each_back (IsBelow goals n) goal.dependencies (flat_map (λ pair. pair.1) goal.property_dependencies) others_below);
+    further = others_below;
     provided = provides;
   }
 
@@ -307,16 +287,19 @@ module _ (known : Known) (in_stack : IsScope known.run.stack) (in_project : IsSc
       by false None is = all_made request is
       by false (Some problem) is = all
 
-  all_after : (what : What) → AllBelow (goals_after known what)
-  all_after (Told request) = all_told request
-  all_after _ = all
+all_after : (spelling : Spelling) (known : Known) (seat : ℕ) (what : What) → HasNames known.run → MayHappen spelling known seat what
+    → AllBelow known.goals → AllBelow (goals_after known what)
+all_after spelling known seat (Told request) names may all =
+    let scopes = told-names spelling known seat request names may in
+    all_told known scopes.0 scopes.1 all request
+all_after spelling known seat _ names may all = all
 
 -- ---- the goals of a history
 
--- the goals of every history refer to goals behind them
-pub all-below : (run : Fixed) (history : List Event) → IsScope run.stack → IsScope run.project → AllBelow (known_of run history).goals
+-- the goals of every legal history refer to goals behind them
+pub all-below : (run : Fixed) (spelling : Spelling) (history : List Event) → HasNames run → IsLegal run spelling history
+    → AllBelow (known_of run history).goals
 unfolding known_of
-all-below run [] in_stack in_project = tt
-all-below run (event ∷ past) in_stack in_project =
-    all_after (known_of run past) (subst (λ (fixed : Fixed). IsScope fixed.stack) (sym (run_of run past)) in_stack)
-    (subst (λ (fixed : Fixed). IsScope fixed.project) (sym (run_of run past)) in_project) (all-below run past in_stack in_project) event.what
+all-below run spelling [] names legal = tt
+all-below run spelling (event ∷ past) names legal =
+    all_after spelling (known_of run past) event.seat event.what (names-there run past names) legal.1 (all-below run spelling past names legal.0)

@@ -34,7 +34,7 @@ not_true false h = refl
 -- ---- counts
 
 -- nothing that passes is left by a filter
-none_pass : {X : Type 0} (test : X → Bool) (xs : List X) → list_any test xs ≡ false → length (filter test xs) ≡ 0
+pub none_pass : {X : Type 0} (test : X → Bool) (xs : List X) → list_any test xs ≡ false → length (filter test xs) ≡ 0
 none_pass test [] h = refl
 none_pass test (x ∷ xs) h = by (test x) refl (none_pass test xs) h
   where

@@ -54,7 +54,7 @@ each-passes {X} p (x ∷ xs) = by (p x) refl (each-passes p xs)
     by true is rest = rw is (is, rest)
     by false is rest = rw is rest
 
-each-all : {X : Type 0} (P : X → Type 0) (xs : List X) → Each P xs → All P xs
+pub each-all : {X : Type 0} (P : X → Type 0) (xs : List X) → Each P xs → All P xs
 each-all P [] h = λ k d low. absurd (omega arith)
 each-all {X} P (x ∷ xs) h = λ k d low. at k d low (each-all P xs h.1)
   where
@@ -87,12 +87,16 @@ pub pairs-append : {X : Type 0} (R : X → X → Type 0) (xs ys : List X) → Pa
 pairs-append R [] ys h k cross = k
 pairs-append R (x ∷ xs) ys h k cross = (each-append (R x) xs ys h.0 cross.0, pairs-append R xs ys h.1 k cross.1)
 
+-- the other way round each stands in the converse relation
+pub pairs-turned : {X : Type 0} (R S : X → X → Type 0) → ((x y : X) → R x y → S y x) → (xs : List X) → Pairwise R xs → Pairwise S (reverse xs)
+pairs-turned R S turn [] h = tt
+pairs-turned R S turn (x ∷ xs) h =
+    subst (λ ys. Pairwise S ys) (sym (reverse-append (x ∷ []) xs))
+    (pairs-append S (reverse xs) (x ∷ []) (pairs-turned R S turn xs h.1) (tt, tt)
+    (each-weaker (R x) (λ y. Each (S y) (x ∷ [])) (λ y r. (turn x y r, tt)) (reverse xs) (each-reverse (R x) xs h.0)))
+
 pub pairs-reverse : {X : Type 0} (R : X → X → Type 0) → ((x y : X) → R x y → R y x) → (xs : List X) → Pairwise R xs → Pairwise R (reverse xs)
-pairs-reverse R turn [] h = tt
-pairs-reverse R turn (x ∷ xs) h =
-    subst (λ ys. Pairwise R ys) (sym (reverse-append (x ∷ []) xs))
-    (pairs-append R (reverse xs) (x ∷ []) (pairs-reverse R turn xs h.1) (tt, tt)
-    (each-weaker (R x) (λ y. Each (R y) (x ∷ [])) (λ y r. (turn x y r, tt)) (reverse xs) (each-reverse (R x) xs h.0)))
+pairs-reverse R turn xs h = pairs-turned R R turn xs h
 
 pub pairs-filter : {X : Type 0} (R : X → X → Type 0) (p : X → Bool) (xs : List X) → Pairwise R xs → Pairwise R (filter p xs)
 pairs-filter R p [] h = tt

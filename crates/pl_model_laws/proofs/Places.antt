@@ -1,16 +1,17 @@
 -- What a goal refers to has numbers below its own, so it is recorded once all goals below are.
 use Rattle.std.proofs.Common.{◌≡◌, ℕ, ◌<◌, ◌==◌, Bool, true, false, ◌&&◌, if◌then◌else◌, List, [], ◌∷◌, length, Option, Some, None, refl, ◌∙◌, ap, subst}
 use Rattle.std.specs.List.{list_all}
-use Rattle.pl_urn.specs.Grammar.{IsScope}
 use Rattle.pl_state.specs.Chain.{some_passes}
 use Rattle.pl_state.specs.Kinds.{is_provided}
+use Rattle.pl_state.specs.References.{further_urns}
 use Rattle.pl_state.specs.declared.goal.Goal.{Goal}
 use Rattle.pl_events.specs.declared.event.Event.{Event}
-use Rattle.pl_model.specs.Run.{Fixed}
+use Rattle.pl_model.specs.Run.{Fixed, HasNames, Spelling}
 use Rattle.pl_model.specs.Claims.{numbered}
 use Rattle.pl_model.specs.Due.{is_recorded_urn, none_or, references_recorded}
 use Rattle.pl_model.specs.History.{known_of}
 use Rattle.pl_model.specs.Known.{Known, goal_at, is_recorded}
+use Rattle.pl_model.specs.Legal.{IsLegal}
 use Rattle.pl_model_laws.proofs.Distinct.{IsApart, IsFree, apart_of, some_equal}
 use Rattle.pl_model_laws.proofs.Growing.{equal_numbers}
 use Rattle.pl_model_laws.proofs.Naming.{AllBelow, IsBelow, RefersBelow, all-below, below_more}
@@ -25,10 +26,7 @@ refers_more : (newest : Goal) (goals : List Goal) (n : ℕ) (goal : Goal) → Is
 refers_more newest goals n goal free h = record {
   parent = λ urn is. more urn (h.parent urn is);
   provider = h.provider;
-  dependencies = each-weaker (IsBelow goals n) (IsBelow (newest ∷ goals) n) more goal.dependencies h.dependencies;
-  properties = each-weaker (λ (pair : List ℕ × List (List ℕ)). Each (IsBelow goals n) pair.1)
-      (λ (pair : List ℕ × List (List ℕ)). Each (IsBelow (newest ∷ goals) n) pair.1)
-      (λ pair. each-weaker (IsBelow goals n) (IsBelow (newest ∷ goals) n) more pair.1) goal.property_dependencies h.properties;
+  further = each-weaker (IsBelow goals n) (IsBelow (newest ∷ goals) n) more (further_urns goal) h.further;
   provided = h.provided;
 }
   where
@@ -51,16 +49,16 @@ refers_at (newest ∷ earlier) apart all n goal h = by (length earlier == n) ref
     by false is h rest = refers_more newest earlier n goal apart.1 (rest h)
 
 -- what a goal refers to are goals below it
-pub references-below : (run : Fixed) (history : List Event) (n : ℕ) (goal : Goal) → IsScope run.stack → IsScope run.project
+pub references-below : (run : Fixed) (spelling : Spelling) (history : List Event) (n : ℕ) (goal : Goal) → HasNames run → IsLegal run spelling history
     → goal_at (known_of run history) n ≡ Some goal → RefersBelow (known_of run history).goals n goal
-references-below run history n goal in_stack in_project =
-    refers_at (known_of run history).goals (apart_of run history in_stack in_project) (all-below run history in_stack in_project) n goal
+references-below run spelling history n goal names legal =
+    refers_at (known_of run history).goals (apart_of run spelling history names legal) (all-below run spelling history names legal) n goal
 
 -- a goal that is provided for has its provider below it
-pub provided-named : (run : Fixed) (history : List Event) (n : ℕ) (goal : Goal) → IsScope run.stack → IsScope run.project
+pub provided-named : (run : Fixed) (spelling : Spelling) (history : List Event) (n : ℕ) (goal : Goal) → HasNames run → IsLegal run spelling history
     → goal_at (known_of run history) n ≡ Some goal → is_provided goal ≡ true → (m : ℕ) × (goal.provider ≡ Some m) × (m < n)
-provided-named run history n goal in_stack in_project stands provided =
-    let refers = references-below run history n goal in_stack in_project stands in
+provided-named run spelling history n goal names legal stands provided =
+    let refers = references-below run spelling history n goal names legal stands in
     let named = some_there goal.provider (refers.provided provided) in
     (named.0, named.1, refers.provider named.0 named.1)
 
@@ -90,30 +88,22 @@ module _ (known : Known) (n : ℕ) (goal : Goal) (refers : RefersBelow known.goa
   provider_recorded None low = refl
   provider_recorded (Some m) low = recorded m (low m refl)
 
-  properties_recorded : list_all (λ pair. list_all (is_recorded_urn known) pair.1) goal.property_dependencies ≡ true
-  properties_recorded =
-      all_of_each (λ (pair : List ℕ × List (List ℕ)). list_all (is_recorded_urn known) pair.1) goal.property_dependencies
-      (each-weaker (λ (pair : List ℕ × List (List ℕ)). Each (IsBelow known.goals n) pair.1)
-      (λ (pair : List ℕ × List (List ℕ)). list_all (is_recorded_urn known) pair.1 ≡ true)
-      (λ pair. urns_recorded pair.1) goal.property_dependencies refers.properties)
-
   all_references : references_recorded known goal ≡ true
   all_references =
-      four (none_or (is_recorded_urn known) goal.parent) (none_or (is_recorded known) goal.provider)
-      (list_all (is_recorded_urn known) goal.dependencies) _
+      three (none_or (is_recorded_urn known) goal.parent) (none_or (is_recorded known) goal.provider)
+      (list_all (is_recorded_urn known) (further_urns goal))
       (parent_recorded goal.parent refers.parent) (provider_recorded goal.provider refers.provider)
-      (urns_recorded goal.dependencies refers.dependencies) properties_recorded
+      (urns_recorded (further_urns goal) refers.further)
     where
-      four : (a b c d : Bool) → a ≡ true → b ≡ true → c ≡ true → d ≡ true → (a && b && c && d) ≡ true
-      four true true true true first second third last = refl
-      four true true true false first second third last = absurd (let e : false ≡ true = last in cc)
-      four true true false d first second third last = absurd (let e : false ≡ true = third in cc)
-      four true false c d first second third last = absurd (let e : false ≡ true = second in cc)
-      four false b c d first second third last = absurd (let e : false ≡ true = first in cc)
+      three : (a b c : Bool) → a ≡ true → b ≡ true → c ≡ true → (a && b && c) ≡ true
+      three true true true first second third = refl
+      three true true false first second third = absurd (let e : false ≡ true = third in cc)
+      three true false c first second third = absurd (let e : false ≡ true = second in cc)
+      three false b c first second third = absurd (let e : false ≡ true = first in cc)
 
 -- where the goals below a goal are recorded, those of its references are
-pub references-ready : (run : Fixed) (history : List Event) (n : ℕ) (goal : Goal) → IsScope run.stack → IsScope run.project
+pub references-ready : (run : Fixed) (spelling : Spelling) (history : List Event) (n : ℕ) (goal : Goal) → HasNames run → IsLegal run spelling history
     → ((m : ℕ) → m < n → is_recorded (known_of run history) m ≡ true) → goal_at (known_of run history) n ≡ Some goal
     → references_recorded (known_of run history) goal ≡ true
-references-ready run history n goal in_stack in_project recorded stands =
-    all_references (known_of run history) n goal (references-below run history n goal in_stack in_project stands) recorded
+references-ready run spelling history n goal names legal recorded stands =
+    all_references (known_of run history) n goal (references-below run spelling history n goal names legal stands) recorded

@@ -17,16 +17,16 @@ use Rattle.pl_events.specs.declared.reply.Reply.{Reply}
 use Rattle.pl_model.specs.Run.{Fixed, Spelling, is_preview}
 use Rattle.pl_model.specs.Tickets.{op_at, Errand, begun_of, errand_by, same_op, was_begun}
 use Rattle.pl_model.specs.Recording.{has_number, is_thing, goal_of_op, only_if, recorded_by, recorded_by_reply, recorded_of, fresh_by, fresh_of}
-use Rattle.pl_model.specs.Claims.{Decided, claimed_row, first_some, id_of_row, is_row, usable_id}
+use Rattle.pl_model.specs.Claims.{Decided, claimed_row, id_of_row, is_row, kept_provider_id, usable_id}
 use Rattle.pl_model.specs.Decisions.{is_refused}
 use Rattle.pl_model.specs.Due.{for_decided, has_unknown_provider, is_asked, is_due_on, is_keep_ready, is_lane_of, is_placed, is_reading, is_ready, is_ready_on, is_wanted_op, keeps_goal, op_of_decision, op_of_goal, passes_limit, provider_stands, references_recorded, sends_goal, to_keep, to_send, urn_is_free, way_is_free}
-use Rattle.pl_model.specs.Entries.{Result, recording_of, result_answered, result_kept, result_of_keep, kept_provider_id}
+use Rattle.pl_model.specs.Entries.{Result, recording_of, result_by, result_of_keep}
 use Rattle.pl_model.specs.History.{known_of}
 use Rattle.pl_model.specs.Known.{Known, decided_goal, goal_at, is_recorded, claim_row, has_problem, provider_id}
 use Rattle.pl_model.specs.Legal.{IsLegal, MayBeKept, MayHappen, needs_fresh}
 use Rattle.pl_model_laws.proofs.Growing.{equal_numbers, decisions-stay, goals-stay, run_of}
 use Rattle.pl_model_laws.proofs.Once.{and_left, and_right, history_of, not_true}
-use Rattle.pl_model_laws.proofs.Standing.{IsOnly, KeepsClaim, claim-of-decided, closed_with, id_there, keep_has_claim, keep_id, kept_in, only_there, or_none, passing}
+use Rattle.pl_model_laws.proofs.Standing.{IsOnly, KeepsClaim, claim-of-decided, closed_with, given_in, id_there, keep_has_claim, keep_id, only_there, or_none, passing, unrecorded-gives}
 
 -- ---- no operation is sent for a provider
 
@@ -224,9 +224,9 @@ module _ (run : Fixed) (spelling : Spelling) (known : Known) (number : ℕ) (goa
   abbrev HasId : Option Result → Option ℕ → Type 0
   HasId o fresh = (result : Result) × (o ≡ Some result) × (result.id ≡ kept_provider_id claimed fresh) × (is_some (kept_provider_id claimed fresh) ≡ true)
 
-  -- what the keeps of a history give
-  abbrev kept : List Event → Option Result
-  kept past = kept_in known number goal one past
+  -- what the events of a history gave to its entry
+  abbrev given : List Event → Option Result
+  given past = given_in known number goal one past
 
   -- a number is kept exactly where the claim has no id that a reference can name
   number_needed : (past : List Event) (fresh : Option ℕ) → goal_at (known_of run past) number ≡ Some goal → decided_goal (known_of run past) number ≡ Some one
@@ -240,7 +240,7 @@ module _ (run : Fixed) (spelling : Spelling) (known : Known) (number : ℕ) (goa
 
   -- what the keep of a provider gives
   kept_now : (past : List Event) (fresh : Option ℕ) → OnlyGoal past → OnlyDecided past → MayBeKept (known_of run past) number fresh
-      → HasId (Some (result_of_keep goal claimed one fresh)) (option_or (fresh_of past number) fresh)
+      → HasId (option_or (given past) (Some (result_of_keep goal claimed one fresh))) (option_or (fresh_of past number) fresh)
   kept_now past fresh only_goal only_decided may =
       let ready : is_keep_ready (known_of run past) number ≡ true =
       and_right (not (has_problem (known_of run past))) (is_keep_ready (known_of run past) number)
@@ -254,39 +254,45 @@ module _ (run : Fixed) (spelling : Spelling) (known : Known) (number : ℕ) (goa
       not_true (is_recorded (known_of run past) number) (and_right (not (is_refused found.1.decision)) (not (is_recorded (known_of run past) number))
       (and_left _ (references_recorded (known_of run past) found.0)
       (and_left _ (is_preview (known_of run past).run.mode || urn_is_free (known_of run past) found.0 found.1) placed))) in
-      let never : fresh_of past number ≡ None =
-      fresh_unrecorded past number (subst (λ (events : List Event). has_number (recorded_of events) number ≡ false) (history_of run past) unrecorded) in
+      let new : has_number (recorded_of past) number ≡ false =
+      subst (λ (events : List Event). has_number (recorded_of events) number ≡ false) (history_of run past) unrecorded in
       let keeps : KeepsClaim known.run one =
       subst (λ (fixed : Fixed). KeepsClaim fixed one) (run_of run past ∙ sym same_run) (keep_has_claim run past number one decided) in
       let there : is_some (kept_provider_id claimed fresh) ≡ true =
       id_there (usable_id (id_of_row claimed)) fresh (number_needed past fresh here decided may.number_there) in
-      subst (λ (o : Option ℕ). HasId (Some (result_of_keep goal claimed one fresh)) (option_or o fresh)) (sym never)
-      (result_of_keep goal claimed one fresh, refl, keep_id goal claimed one fresh provider keeps, there)
+      subst (λ (o : Option Result). HasId (option_or o (Some (result_of_keep goal claimed one fresh))) (option_or (fresh_of past number) fresh))
+      (sym (unrecorded-gives known number goal one past new))
+      (subst (λ (o : Option ℕ). HasId (Some (result_of_keep goal claimed one fresh)) (option_or o fresh)) (sym (fresh_unrecorded past number new))
+      (result_of_keep goal claimed one fresh, refl, keep_id goal claimed one fresh provider keeps, there))
 
-  -- what stays where nothing is kept
-  kept_before : (past : List Event) → HasId (kept past) (fresh_of past number) → HasId (kept past) (option_or (fresh_of past number) None)
-  kept_before past h = subst (λ (o : Option ℕ). HasId (kept past) o) (sym (or_none (fresh_of past number))) h
+  -- what was given stays, where no number comes
+  given_before : (past : List Event) (more : Option Result) → HasId (given past) (fresh_of past number)
+      → HasId (option_or (given past) more) (option_or (fresh_of past number) None)
+  given_before past more h =
+      subst (λ (o : Option ℕ). HasId (option_or (given past) more) o) (sym (or_none (fresh_of past number)))
+      (h.0, ap (λ (o : Option Result). option_or o more) h.1, h.2, h.3)
 
   -- one event more leaves the goal kept with its id, or keeps it so
   kept_step : (seat : ℕ) (past : List Event) (what : What) → MayHappen spelling (known_of run past) seat what → OnlyGoal past → OnlyDecided past
       → list_any sent_for (begun_of past) ≡ false
-      → (has_number (recorded_of past) number ≡ true → HasId (kept past) (fresh_of past number))
+      → (has_number (recorded_of past) number ≡ true → HasId (given past) (fresh_of past number))
       → has_number (cons_option (recorded_by past what) (recorded_of past)) number ≡ true
-      → HasId (option_or (result_kept known number goal one what) (kept past)) (option_or (fresh_of past number) (fresh_by number what))
+      → HasId (option_or (given past) (result_by known number goal one past what)) (option_or (fresh_of past number) (fresh_by number what))
   kept_step seat past (Kept own fresh) may only_goal only_decided none rest h = by (own == number) refl h
     where
       by : (b : Bool) → (own == number) ≡ b → (b || has_number (recorded_of past) number) ≡ true
-          → HasId (option_or (only_if b (Some (result_of_keep goal claimed one fresh))) (kept past)) (option_or (fresh_of past number) (only_if b fresh))
+          → HasId (option_or (given past) (option_or (only_if b (Some (result_of_keep goal claimed one fresh))) None))
+          (option_or (fresh_of past number) (only_if b fresh))
       by true is h = kept_now past fresh only_goal only_decided
           (subst (λ (n : ℕ). MayBeKept (known_of run past) n fresh) (equal_numbers own number is) may)
-      by false is h = kept_before past (rest h)
+      by false is h = given_before past None (rest h)
   kept_step seat past (Answered ticket said) may only_goal only_decided none rest h =
-      kept_before past (rest (answer_records_other past ticket said none h))
-  kept_step seat past _ may only_goal only_decided none rest h = kept_before past (rest h)
+      given_before past (result_by known number goal one past (Answered ticket said)) (rest (answer_records_other past ticket said none h))
+  kept_step seat past _ may only_goal only_decided none rest h = given_before past None (rest h)
 
   -- a recorded provider was kept, with the id by which references name it
   kept_found : (past : List Event) → IsLegal run spelling past → OnlyGoal past → OnlyDecided past → has_number (recorded_of past) number ≡ true
-      → HasId (kept past) (fresh_of past number)
+      → HasId (given past) (fresh_of past number)
   kept_found [] legal only_goal only_decided h = absurd (let e : false ≡ true = h in cc)
   kept_found (event ∷ past) legal only_goal only_decided h =
       kept_step event.seat past event.what legal.1 (goal_before event past only_goal) (decided_before event past only_decided)
@@ -306,8 +312,7 @@ provider-id run spelling history number goal one result legal recorded provider 
     (only_there (goal_at known number) goal here) (only_there (decided_goal known number) one decided)
     (subst (λ (events : List Event). has_number (recorded_of events) number ≡ true) told recorded) in
     let first : recording_of known number goal one ≡ Some kept.0 =
-    ap (λ (o : Option Result). option_or o (first_some (result_answered known number one) known.answers))
-    (ap (λ (events : List Event). kept_in known number goal one events) told ∙ kept.1) in
+    ap (λ (events : List Event). given_in known number goal one events) told ∙ kept.1 in
     let same : kept.0 ≡ result = let e : Some kept.0 ≡ Some result = sym first ∙ found in cc in
     let id : provider_id known number ≡ kept_provider_id (claimed_row known.run one.claim) (fresh_of history number) =
     ap (λ (claim : Option ℕ). option_or (usable_id (id_of_row (claimed_row known.run claim))) (option_map id_text (fresh_of known.history number)))

@@ -6,7 +6,8 @@ use Rattle.pl_reference.specs.declared.reference.ProviderRef.{ProviderRef}
 use Rattle.pl_refresh.specs.Refreshed.{Left, all_left, if_there, imported_left, is_there, keyed_left, nearest, past_row, provider_left, pruned, pruned_behind, pruned_row, replaced_left, replaced_row, rows_left, urns_left}
 use Rattle.pl_refresh.specs.declared.row_now.RowNow.{RowNow}
 use Rattle.pl_refresh.specs.declared.row_now.RowNow.TheVariants as now
-use Rattle.pl_state.specs.Sound.{IsSound, has_urn, is_provider}
+use Rattle.pl_state.specs.References.{has_urn, is_provider}
+use Rattle.pl_state.specs.Sound.{IsSound}
 use Rattle.pl_state.specs.declared.entry.Entry.{Entry}
 use Rattle.pl_events.specs.declared.event.Event.{Event}
 use Rattle.pl_events.specs.declared.operation.Op.TheVariants as op
@@ -79,6 +80,7 @@ pruned_meets base earlier left = record {
   provider = λ reference is. provider_there earlier left.row.provider reference is;
   dependencies = urns_there earlier left.row.dependencies;
   property_dependencies = keyed_there earlier left.row.property_dependencies;
+  deleted_with = λ urn is. there_if (is_there earlier) left.row.deleted_with urn is;
 }
 
 -- so each entry finds what it refers to

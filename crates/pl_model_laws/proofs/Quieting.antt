@@ -1,17 +1,17 @@
 -- Where nothing is out, due or over the limit, everything is done.
 use Rattle.std.proofs.Common.{◌≡◌, ◌<◌, ℕ, suc, length, Bool, true, false, not, ◌||◌, List, [], ◌∷◌, option_and_then, slice_get, take, Option, Some, None, is_none, is_some, refl, sym, ◌∙◌, ap, subst}
 use Rattle.std.specs.List.{list_any}
-use Rattle.pl_urn.specs.Grammar.{IsScope}
 use Rattle.pl_reference.specs.declared.reference.ProviderRef.{ProviderRef}
 use Rattle.pl_state.specs.Chain.{last_from, last_place, last_provider, or_else_place, provider_row_of}
-use Rattle.pl_state.specs.Sound.{IsSound, is_provider}
+use Rattle.pl_state.specs.References.{is_provider}
+use Rattle.pl_state.specs.Sound.{IsSound}
 use Rattle.pl_state.specs.declared.entry.Entry.{Entry}
 use Rattle.pl_state.specs.declared.goal.Goal.{Goal}
 use Rattle.pl_events.specs.declared.event.Event.{Event}
 use Rattle.pl_events.specs.declared.event.What.{What}
 use Rattle.pl_events.specs.declared.event.What.TheVariants.{Told}
 use Rattle.pl_events.specs.Closing.{has_host_end}
-use Rattle.pl_model.specs.Run.{Fixed, Spelling, has_host, is_destroy, is_preview, is_refresh, rows_of}
+use Rattle.pl_model.specs.Run.{Fixed, HasNames, Spelling, has_host, is_destroy, is_preview, is_refresh, rows_of}
 use Rattle.pl_model.specs.declared.mode.Mode.{Mode}
 use Rattle.pl_model.specs.declared.mode.Mode.TheVariants.{Up, Preview, Destroy, Refresh}
 use Rattle.pl_model.specs.Claims.{numbered}
@@ -21,7 +21,7 @@ use Rattle.pl_model.specs.Known.{Known, goal_at, has_problem, host_ended}
 use Rattle.pl_model.specs.Legal.{IsLegal, MayHappen}
 use Rattle.pl_model_laws.specs.Quiet.{IsAllDone, RepliesFit}
 use Rattle.pl_model_laws.proofs.Circling.{IsStill, everything_done}
-use Rattle.pl_model_laws.proofs.Ending.{end-held, end-trouble}
+use Rattle.pl_model_laws.proofs.Ending.{end-held, end-provided}
 use Rattle.pl_model_laws.proofs.Freeing.{urn-ready}
 use Rattle.pl_model_laws.proofs.Growing.{run_of}
 use Rattle.pl_model_laws.proofs.Places.{provided-named, references-ready}
@@ -30,7 +30,7 @@ use Rattle.pl_model_laws.proofs.Serving.{lanes-serve, provider-configured}
 use Rattle.pl_model_laws.proofs.Sounding.{sound-apart, sound-back}
 use Rattle.pl_model_laws.proofs.TakenOver.{all-decided}
 use Rattle.pl_model_laws.proofs.Troubles.{lacking-trouble, refused-trouble}
-use Rattle.pl_model_laws.proofs.Wants.{kinds_met}
+use Rattle.pl_model_laws.proofs.Wants.{provider_met}
 use Rattle.pl_model_laws.proofs.Working.{config-serves, no-drop, no-keep}
 use Rattle.pl_model_laws.proofs.Waiting.{some_named}
 
@@ -56,7 +56,7 @@ provider_there rows place row sound here names = by row.provider refl names
     by : (o : Option ProviderRef) → row.provider ≡ o → is_none o ≡ false → (own : ℕ) × (provider_row_of rows place ≡ Some own)
     by None is none = absurd (let e : true ≡ false = none in cc)
     by (Some reference) is some =
-        let met = (kinds_met (take place rows) row (sound-back rows sound place row here)).provider reference is in
+        let met = provider_met (take place rows) row (sound-back rows sound place row here) reference is in
         let found = some_named (last_place (is_provider reference) (take place rows)) (last_there (is_provider reference) 0 (take place rows) met) in (
           found.0,
           ap (λ (o : Option Entry). option_and_then (λ (it : Entry). last_provider it.provider (take place rows)) o) here
@@ -90,35 +90,36 @@ hosted run spelling (event ∷ past) n goal legal h =
 
 -- what holds where nothing is out, due or over the limit, whatever the mode
 pub still : (run : Fixed) (spelling : Spelling) (history : List Event)
-    → IsScope run.stack → IsScope run.project → 0 < run.parallel → RepliesFit spelling → IsLegal run spelling history
+    → HasNames run → 0 < run.parallel → RepliesFit spelling → IsLegal run spelling history
     → has_problem (known_of run history) ≡ false → IsQuiet (known_of run history) → IsStill run history
-still run spelling history stack project some fit legal calm quiet = record {
+still run spelling history names some fit legal calm quiet = record {
   decided = all-decided run spelling history legal;
   replied = λ about plain begun. reply-came run spelling fit history legal calm quiet.closed about begun;
   goal_done = λ about number on begun. goal-recorded run spelling fit history legal calm quiet.closed about number on begun;
-  served = λ about wanted from wants listed. lanes-serve run spelling fit history legal calm quiet some about wanted from wants listed;
+  served = λ about wanted from wants listed. lanes-serve run spelling fit history legal calm quiet names some about wanted from wants listed;
   config_served = λ n wants low. config-serves (known_of run history) quiet calm n wants low;
   no_keep = λ n ready low. no-keep (known_of run history) quiet calm n ready low;
   unrefused = λ n one decided. refused-trouble run history n one calm decided;
-  ready_references = λ n goal before stands. references-ready run history n goal stack project before stands;
-  named = λ n goal stands provided. provided-named run history n goal stack project stands provided;
+  ready_references = λ n goal before stands. references-ready run spelling history n goal names legal before stands;
+  named = λ n goal stands provided. provided-named run spelling history n goal names legal stands provided;
 }
 
 pub quiet-is-done : (run : Fixed) (spelling : Spelling) (history : List Event)
-    → IsScope run.stack → IsScope run.project → is_preview run.mode ≡ false → is_refresh run.mode ≡ false
+    → HasNames run → is_preview run.mode ≡ false → is_refresh run.mode ≡ false
     → 0 < run.parallel → RepliesFit spelling → IsSound (rows_of run) → IsLegal run spelling history
     → host_ended (known_of run history) ≡ true → has_problem (known_of run history) ≡ false → IsQuiet (known_of run history)
     → IsAllDone (known_of run history)
-quiet-is-done run spelling history stack project real other some fit sound legal ended calm quiet =
-    everything_done run history (still run spelling history stack project some fit legal calm quiet) real other
+quiet-is-done run spelling history names real other some fit sound legal ended calm quiet =
+    everything_done run spelling history (still run spelling history names some fit legal calm quiet) real other
     (λ row begun. row-removed run spelling fit history legal calm quiet.closed row begun)
-    (λ n begun low. provider-configured run spelling fit history legal calm quiet n begun low)
+    (λ n begun low. provider-configured run spelling fit history legal calm quiet real n begun low)
     (λ row ready low. no-drop (known_of run history) quiet calm row ready
     (subst (λ (fixed : Fixed). row < length (rows_of fixed)) (sym (run_of run history)) low))
-    (λ n one row entry decided first takes at. lacking-trouble run spelling history n row one entry legal calm decided first takes at)
+    (λ n one row entry decided first takes at left. lacking-trouble run spelling history n row one entry real
+    (sound-apart (rows_of run) sound) legal calm decided first takes at left)
     (λ n goal one stands decided before gone. urn-ready run spelling history n goal one legal (sound-apart (rows_of run) sound) stands decided before gone)
     (λ row entry here names. provider_there (rows_of run) row entry sound here names)
     (λ n goal stands. hosted run spelling history n goal legal stands)
     ended
-    (λ over row entry doomed at. (end-trouble run history calm over row entry doomed at).1)
-    (λ over later earlier left refers doomed. end-held run history calm over later earlier left refers doomed)
+    (λ over row entry doomed at. end-provided run spelling history legal real (sound-apart (rows_of run) sound) calm over row entry doomed at)
+    (λ over later earlier left refers doomed. end-held run spelling history legal calm over later earlier left refers doomed)

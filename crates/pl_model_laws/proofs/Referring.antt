@@ -6,7 +6,8 @@ use Rattle.std.proofs.lemmas.List.Folds.{list_any-append}
 use Rattle.std.proofs.lemmas.Slice.Eq.{bytes_eq-Decides}
 use Rattle.std.specs.List.{cons_option, list_any, list_all}
 use Rattle.pl_state.specs.Kinds.{is_provider_goal}
-use Rattle.pl_state.specs.Sound.{has_urn, is_id, is_met, is_provider, optional_wants}
+use Rattle.pl_state.specs.References.{further_urns, has_urn, is_id, is_provider, optional_refs, option_list, property_urns}
+use Rattle.pl_state.specs.Sound.{is_met}
 use Rattle.pl_state.specs.declared.entry.Entry.{Entry}
 use Rattle.pl_state.specs.declared.fault.Missing.{Missing}
 use Rattle.pl_state.specs.declared.fault.Missing.TheVariants.{Parent, Provider}
@@ -176,12 +177,23 @@ ProvidersProvide known =
     (number own : ℕ) (goal other : Goal) → goal_at known number ≡ Some goal → goal.provider ≡ Some own → goal_at known own ≡ Some other
     → is_provider_goal other ≡ true
 
--- each want of a row but that of its own URN is met by the rows before it
+-- the URNs that a row refers to beside its parent's and its provider's
+abbrev pub further_of : Entry → List (List ℕ)
+further_of row = row.dependencies ++ (property_urns row.property_dependencies ++ option_list row.deleted_with)
+
+-- each reference of a row is met by the rows before it
 pub record MeetsReferences (rows : List Entry) (row : Entry) : Type 0 where
-  pub parent : list_all (is_met rows) (optional_wants Parent row.parent) ≡ true
-  pub provider : list_all (is_met rows) (optional_wants Provider row.provider) ≡ true
-  pub dependencies : list_all (λ urn. list_any (has_urn urn) rows) row.dependencies ≡ true
-  pub property_dependencies : list_all (λ pair. list_all (λ urn. list_any (has_urn urn) rows) pair.1) row.property_dependencies ≡ true
+  pub parent : list_all (is_met rows) (optional_refs Parent row.parent) ≡ true
+  pub provider : list_all (is_met rows) (optional_refs Provider row.provider) ≡ true
+  pub further : list_all (λ urn. list_any (has_urn urn) rows) (further_of row) ≡ true
+
+-- a row with these fields of a goal has the goal's further URNs
+pub further_same : (row : Entry) (goal : Goal) → row.dependencies ≡ goal.dependencies → row.property_dependencies ≡ goal.property_dependencies
+    → row.deleted_with ≡ goal.deleted_with → further_of row ≡ further_urns goal
+further_same row goal direct by_property deleter =
+    ap (λ (urns : List (List ℕ)). urns ++ (property_urns row.property_dependencies ++ option_list row.deleted_with)) direct
+    ∙ ap (λ (pairs : List (List ℕ × List (List ℕ))). goal.dependencies ++ (property_urns pairs ++ option_list row.deleted_with)) by_property
+    ∙ ap (λ (o : Option (List ℕ)). goal.dependencies ++ (property_urns goal.property_dependencies ++ option_list o)) deleter
 
 -- a row with a URN and an id is the provider that the two name
 pub is_named : (text own : List ℕ) (row : Entry) → row.urn ≡ text → row.id ≡ Some own → is_provider (record { urn = text; id = own }) row ≡ true
@@ -194,18 +206,18 @@ is_named text own row same_urn same_id =
 -- the reference to a provider is met where a row is the one that its URN and its id name
 pub reference_met : (known : Known) (own : ℕ) (other : Goal) (text : List ℕ) (rows : List Entry) → goal_at known own ≡ Some other
     → provider_id known own ≡ Some text → list_any (is_provider (record { urn = other.urn; id = text })) rows ≡ true
-    → list_all (is_met rows) (optional_wants Provider (reference_to known own)) ≡ true
+    → list_all (is_met rows) (optional_refs Provider (reference_to known own)) ≡ true
 reference_met known own other text rows there named met =
-    subst (λ (o : Option Goal). list_all (is_met rows) (optional_wants Provider (option_and_then (λ (it : Goal).
+    subst (λ (o : Option Goal). list_all (is_met rows) (optional_refs Provider (option_and_then (λ (it : Goal).
     option_map (λ (id : List ℕ). record { urn = it.urn; id = id }) (provider_id known own)) o)) ≡ true) (sym there)
-    (subst (λ (o : Option (List ℕ)). list_all (is_met rows) (optional_wants Provider
+    (subst (λ (o : Option (List ℕ)). list_all (is_met rows) (optional_refs Provider
     (option_map (λ (id : List ℕ). record { urn = other.urn; id = id }) o)) ≡ true) (sym named)
     (ap (λ (b : Bool). b && true) met))
 
 -- equal references are met alike
-same_wants : {X : Type 0} (rows : List Entry) (want : X → Missing) (one other : Option X) → one ≡ other
-    → list_all (is_met rows) (optional_wants want one) ≡ list_all (is_met rows) (optional_wants want other)
-same_wants {X = X} rows want one other same = ap (λ (o : Option X). list_all (is_met rows) (optional_wants want o)) same
+pub same_wants : {X : Type 0} (rows : List Entry) (want : X → Missing) (one other : Option X) → one ≡ other
+    → list_all (is_met rows) (optional_refs want one) ≡ list_all (is_met rows) (optional_refs want other)
+same_wants {X = X} rows want one other same = ap (λ (o : Option X). list_all (is_met rows) (optional_refs want o)) same
 
 -- what a recorded goal has
 pub record Standing (known : Known) (number : ℕ) (goal : Goal) : Type 0 where
@@ -291,7 +303,7 @@ module _ (run : Fixed) (spelling : Spelling) (history : List Event) (legal : IsL
     named_met : (own : ℕ) (other : Goal) (text : List ℕ) → goal_at (known_of run history) own ≡ Some other → is_recorded before own ≡ true
         → (standing : Standing (known_of run history) own other) → standing.result.id ≡ provider_id (known_of run history) own
         → provider_id (known_of run history) own ≡ Some text
-        → list_all (is_met (rows_of older)) (optional_wants Provider (reference_to (known_of run history) own)) ≡ true
+        → list_all (is_met (rows_of older)) (optional_refs Provider (reference_to (known_of run history) own)) ≡ true
     named_met own other text there h standing same named =
         let found : standing.row.id ≡ Some text = standing.stands.id ∙ same ∙ named in
         reference_met (known_of run history) own other text (rows_of older) there named
@@ -301,7 +313,7 @@ module _ (run : Fixed) (spelling : Spelling) (history : List Event) (legal : IsL
     -- an older provider is found
     older_provider_met : (own : ℕ) (other : Goal) → goal_at (known_of run history) own ≡ Some other → is_recorded before own ≡ true
         → is_provider_goal other ≡ true → Standing (known_of run history) own other
-        → list_all (is_met (rows_of older)) (optional_wants Provider (reference_to (known_of run history) own)) ≡ true
+        → list_all (is_met (rows_of older)) (optional_refs Provider (reference_to (known_of run history) own)) ≡ true
     older_provider_met own other there h provider standing =
         let ids = provider-id run spelling history own other standing.one standing.result legal (recorded_now own h) provider there
         standing.decided standing.recording in
@@ -310,7 +322,7 @@ module _ (run : Fixed) (spelling : Spelling) (history : List Event) (legal : IsL
 
     -- the reference to a provider that was recorded before is met by an older entry
     provider_met : (goal : Goal) (own : ℕ) → goal_at (known_of run history) number ≡ Some goal → goal.provider ≡ Some own → is_recorded before own ≡ true
-        → list_all (is_met (rows_of older)) (optional_wants Provider (reference_to (known_of run history) own)) ≡ true
+        → list_all (is_met (rows_of older)) (optional_refs Provider (reference_to (known_of run history) own)) ≡ true
     provider_met goal own here names h =
         let holds = held origin.past own legal_here.0 h in
         let there : goal_at (known_of run history) own ≡ Some holds.0 = goal_then own holds.0 holds.2 in
@@ -341,17 +353,17 @@ module _ (run : Fixed) (spelling : Spelling) (history : List Event) (legal : IsL
         (goal_before_recording run origin.event origin.past number holds.0 origin.records holds.2))
 
     -- the reference to a parent is met
-    parent_met : (o : Option (List ℕ)) → none_or (is_recorded_urn before) o ≡ true → list_all (is_met (rows_of older)) (optional_wants Parent o) ≡ true
+    parent_met : (o : Option (List ℕ)) → none_or (is_recorded_urn before) o ≡ true → list_all (is_met (rows_of older)) (optional_refs Parent o) ≡ true
     parent_met None h = refl
     parent_met (Some urn) h = ap (λ (b : Bool). b && true) (urn_met urn h)
 
     -- the reference to a provider is met
     own_provider_met : (goal : Goal) → goal_at (known_of run history) number ≡ Some goal → none_or (is_recorded before) goal.provider ≡ true
-        → list_all (is_met (rows_of older)) (optional_wants Provider (option_and_then (reference_to (known_of run history)) goal.provider)) ≡ true
+        → list_all (is_met (rows_of older)) (optional_refs Provider (option_and_then (reference_to (known_of run history)) goal.provider)) ≡ true
     own_provider_met goal here h = by goal.provider refl h
       where
         by : (o : Option ℕ) → goal.provider ≡ o → none_or (is_recorded before) o ≡ true
-            → list_all (is_met (rows_of older)) (optional_wants Provider (option_and_then (reference_to (known_of run history)) o)) ≡ true
+            → list_all (is_met (rows_of older)) (optional_refs Provider (option_and_then (reference_to (known_of run history)) o)) ≡ true
         by None is h = refl
         by (Some own) is h = provider_met goal own here is h
 
@@ -364,21 +376,16 @@ module _ (run : Fixed) (spelling : Spelling) (history : List Event) (legal : IsL
         → Stands (known_of run history) goal result row → MeetsReferences (rows_of older) row
     goal_met goal row result here stands =
         let all : references_recorded before goal ≡ true = references_then goal here in
-        let above = and_left _ (list_all (λ (pair : List ℕ × List (List ℕ)). list_all (is_recorded_urn before) pair.1) goal.property_dependencies) all in
-        let further = and_left _ (list_all (is_recorded_urn before) goal.dependencies) above in
+        let first = and_left _ (list_all (is_recorded_urn before) (further_urns goal)) all in
         record {
-          parent = ap (λ (o : Option (List ℕ)). list_all (is_met (rows_of older)) (optional_wants Parent o)) stands.parent
-              ∙ parent_met goal.parent (and_left (none_or (is_recorded_urn before) goal.parent) (none_or (is_recorded before) goal.provider) further);
+          parent = ap (λ (o : Option (List ℕ)). list_all (is_met (rows_of older)) (optional_refs Parent o)) stands.parent
+              ∙ parent_met goal.parent (and_left (none_or (is_recorded_urn before) goal.parent) (none_or (is_recorded before) goal.provider) first);
           provider = same_wants (rows_of older) Provider row.provider (option_and_then (reference_to (known_of run history)) goal.provider) stands.provider
-              ∙ own_provider_met goal here (and_right (none_or (is_recorded_urn before) goal.parent) (none_or (is_recorded before) goal.provider) further);
-          dependencies = ap (λ (urns : List (List ℕ)). list_all is_there urns) stands.dependencies
-              ∙ all_weaker (is_recorded_urn before) is_there urn_met goal.dependencies (and_right _ (list_all (is_recorded_urn before) goal.dependencies) above);
-          property_dependencies =
-              ap (λ (pairs : List (List ℕ × List (List ℕ))). list_all (λ (pair : List ℕ × List (List ℕ)). list_all is_there pair.1) pairs) stands.property_dependencies
-              ∙ all_weaker (λ (pair : List ℕ × List (List ℕ)). list_all (is_recorded_urn before) pair.1)
-              (λ (pair : List ℕ × List (List ℕ)). list_all is_there pair.1)
-              (λ pair passes. all_weaker (is_recorded_urn before) is_there urn_met pair.1 passes) goal.property_dependencies
-              (and_right _ (list_all (λ (pair : List ℕ × List (List ℕ)). list_all (is_recorded_urn before) pair.1) goal.property_dependencies) all);
+              ∙ own_provider_met goal here (and_right (none_or (is_recorded_urn before) goal.parent) (none_or (is_recorded before) goal.provider) first);
+          further = ap (λ (urns : List (List ℕ)). list_all is_there urns)
+              (further_same row goal stands.dependencies stands.property_dependencies stands.deleted_with)
+              ∙ all_weaker (is_recorded_urn before) is_there urn_met (further_urns goal)
+              (and_right _ (list_all (is_recorded_urn before) (further_urns goal)) all);
         }
 
   -- the entry of a recorded goal meets its references among the entries recorded before it

@@ -9,7 +9,9 @@ use Rattle.pl_state.specs.declared.entry.Entry.{Entry}
 use Rattle.pl_events.specs.declared.event.Event.{Event}
 use Rattle.pl_events.specs.declared.operation.Op.TheVariants as op
 use Rattle.pl_events.specs.declared.operation.Subject.TheVariants as subject
-use Rattle.pl_model.specs.Run.{Fixed, Spelling, is_refresh, rows_of}
+use Rattle.pl_model.specs.Run.{Fixed, HasNames, Spelling, has_host, is_refresh, rows_of}
+use Rattle.pl_model.specs.declared.mode.Mode.{Mode}
+use Rattle.pl_model.specs.declared.mode.Mode.TheVariants.{Refresh}
 use Rattle.pl_model.specs.Due.{IsQuiet, checks_of, deletes_of, is_wanted_op, operations_of, reads_of, sends_of, was_read}
 use Rattle.pl_model.specs.History.{known_of}
 use Rattle.pl_model.specs.Known.{Known, has_problem, is_over, known_by}
@@ -32,36 +34,44 @@ use Rattle.pl_model_laws.proofs.Waiting.{any_back, any_front, any_map, any_rever
 
 -- ---- no row lacks its provider
 
-or_first_none : {X : Type 0} (first second : Option X) → option_or first second ≡ None → first ≡ None
+pub or_first_none : {X : Type 0} (first second : Option X) → option_or first second ≡ None → first ≡ None
 or_first_none None second h = refl
 or_first_none (Some x) second h = absurd (let e : Some x ≡ None = h in cc)
 
-each_at : {X : Type 0} (P : X → Type 0) (xs : List X) (i : ℕ) (x : X) → Each P xs → slice_get xs i ≡ Some x → P x
+pub each_at : {X : Type 0} (P : X → Type 0) (xs : List X) (i : ℕ) (x : X) → Each P xs → slice_get xs i ≡ Some x → P x
 each_at P [] i x all h = absurd (let e : None ≡ Some x = h in cc)
 each_at {X} P (y ∷ xs) zero x all h = subst (λ (z : X). P z) (let e : Some y ≡ Some x = h in cc) all.0
 each_at P (y ∷ xs) (suc i) x all h = each_at P xs i x all.1 h
 
 -- what stood at the start stands
-start_calm : (run : Fixed) (history : List Event) → has_problem (known_of run history) ≡ false → has_problem (known_of run []) ≡ false
+pub start_calm : (run : Fixed) (history : List Event) → has_problem (known_of run history) ≡ false → has_problem (known_of run []) ≡ false
 start_calm run [] calm = calm
 start_calm run (event ∷ past) calm = start_calm run past (calm-before run event past calm)
 
-none_missing : (run : Fixed) → is_refresh run.mode ≡ true → has_problem (known_of run []) ≡ false → refresh_problems run ≡ []
+pub none_missing : (run : Fixed) → is_refresh run.mode ≡ true → has_problem (known_of run []) ≡ false → refresh_problems run ≡ []
 unfolding known_of
 none_missing run anew calm =
     map_none _ _ (subst (λ (b : Bool). at_position 0 (if b then refresh_problems run
     else (if is_over (known_by run [] [] [] []) then end_problems (known_by run [] [] [] []) else [])) ≡ []) anew (no_problems (known_of run []) calm))
 
-has_provider : (entry : Entry) → is_to_read entry ≡ true → unread_row entry ≡ None → is_none entry.provider ≡ false
+pub has_provider : (entry : Entry) → is_to_read entry ≡ true → unread_row entry ≡ None → is_none entry.provider ≡ false
 has_provider entry reads h = by (is_none entry.provider) refl (subst (λ (b : Bool). (if b then names_none entry else None) ≡ None) reads h)
   where
     by : (b : Bool) → is_none entry.provider ≡ b → (if is_none entry.provider then Some (MissingProvider entry.urn) else None) ≡ None → is_none entry.provider ≡ false
     by false is h = is
     by true is h = absurd (let e : Some (MissingProvider entry.urn) ≡ None = subst (λ (b : Bool). (if b then Some (MissingProvider entry.urn) else None) ≡ None) is h in cc)
 
+-- a run that reads everything anew has no host, and needs no names
+no_host : (run : Fixed) → is_refresh run.mode ≡ true → HasNames run
+no_host run anew hosting = absurd (by run.mode anew hosting)
+  where
+    by : (mode : Mode) → is_refresh mode ≡ true → has_host mode ≡ true → ⊥
+    by (Refresh clear imports) h k = let e : false ≡ true = k in cc
+    by _ h k = let e : false ≡ true = h in cc
+
 -- ---- the law
 
-read_listed : (known : Known) (row : ℕ) → row < length (rows_of known.run) → list_any (same_op (op.Read (subject.Row row))) (operations_of known) ≡ true
+pub read_listed : (known : Known) (row : ℕ) → row < length (rows_of known.run) → list_any (same_op (op.Read (subject.Row row))) (operations_of known) ≡ true
 read_listed known row low =
     any_back (same_op (op.Read (subject.Row row))) (deletes_of known) _ (any_back (same_op (op.Read (subject.Row row))) (checks_of known) _
     (any_back (same_op (op.Read (subject.Row row))) (sends_of known) _ (any_front (same_op (op.Read (subject.Row row))) (reads_of known) _
@@ -98,7 +108,7 @@ module _ (run : Fixed) (spelling : Spelling) (history : List Event) (anew : is_r
       let mode : is_refresh known.run.mode ≡ true = ap (λ (fixed : Fixed). is_refresh fixed.mode) (run_of run history) ∙ anew in
       let wants : is_wanted_op known (op.Read (subject.Row row)) ≡ true = rw never (rw mode (rw stands reads)) in
       let low : row < length (rows_of known.run) = slice_get_within (rows_of known.run) row entry stands in
-      lanes-serve run spelling fit history legal calm quiet some (op.Read (subject.Row row)) (source_of_provider known own.0) from wants (read_listed known row low))
+      lanes-serve run spelling fit history legal calm quiet (no_host run anew) some (op.Read (subject.Row row)) (source_of_provider known own.0) from wants (read_listed known row low))
 
   pub row-read : was_read known row ≡ true
   row-read = let came = reply-came run spelling fit history legal calm quiet.closed (op.Read (subject.Row row)) begun in

@@ -1,32 +1,28 @@
 -- How a sound list of rows is built and taken apart, row by row.
-use Rattle.std.proofs.Common.{◌≡◌, ℕ, zero, suc, ◌<◌, ◌≤◌, Bool, true, false, not, ◌&&◌, ◌||◌, if◌then◌else◌, cond, List, [], ◌∷◌, ◌++◌, find, get_or, length, map, nat_lt, slice_get, take, option_and_then, Option, Some, None, refl, sym, ◌∙◌, ap, subst, inl, inr, ◌⊎◌, arith}
+use Rattle.std.proofs.Common.{◌≡◌, ℕ, zero, suc, ◌<◌, ◌≤◌, Bool, true, false, not, ◌&&◌, ◌||◌, if◌then◌else◌, cond, List, [], ◌∷◌, ◌++◌, find, get_or, length, nat_lt, slice_get, take, option_and_then, Option, Some, None, refl, sym, ◌∙◌, ap, subst, inl, inr, ◌⊎◌, arith}
 use Rattle.std.proofs.lemmas.Bool.Decides.{nat_tests}
 use Rattle.std.proofs.Math.Seq.{take-append_seam}
 use Rattle.std.proofs.lemmas.List.{take-append-le}
 use Rattle.std.proofs.lemmas.Option.{get_or_from_slice_get, slice_get-get_or, slice_get_past, slice_get_within}
 use Rattle.std.proofs.lemmas.Slice.Eq.{bytes_eq-Decides}
 use Rattle.std.specs.List.{list_any}
-use Rattle.pl_state.specs.Sound.{IsSound, fault_at, first_unmet, has_urn, is_met, keeps_urn, optional_wants, own_wants, property_urns, wants}
+use Rattle.pl_state.specs.References.{has_urn, keeps_urn, refs}
+use Rattle.pl_state.specs.Sound.{IsSound, fault_at, first_unmet, is_met, own_wants, wants}
 use Rattle.pl_state.specs.declared.entry.Entry.{Entry}
 use Rattle.pl_state.specs.declared.fault.Missing.{Missing}
-use Rattle.pl_state.specs.declared.fault.Missing.TheVariants.{Twice, Parent, Provider, Dependency}
+use Rattle.pl_state.specs.declared.fault.Missing.TheVariants.{Twice}
 use Rattle.pl_model_laws.proofs.Pairs.{Each, each-append}
 use Rattle.pl_model_laws.specs.Apart.{KeepsApart}
 use Rattle.pl_model_laws.proofs.Growing.{or_true}
 use Rattle.pl_model_laws.proofs.Staying.{some_same}
 
--- what a row refers to
-abbrev pub references : Entry → List Missing
-references row =
-    optional_wants Parent row.parent ++ (optional_wants Provider row.provider
-    ++ (map Dependency row.dependencies ++ map Dependency (property_urns row)))
-
+-- each of these wants is met by the rows before
 abbrev pub AreMet : List Entry → List Missing → Type 0
 AreMet before list = Each (λ (want : Missing). is_met before want ≡ true) list
 
 -- every row finds what it refers to among those before it
 abbrev pub RefersBack : List Entry → Type 0
-RefersBack rows = (at : ℕ) (row : Entry) → slice_get rows at ≡ Some row → AreMet (take at rows) (references row)
+RefersBack rows = (at : ℕ) (row : Entry) → slice_get rows at ≡ Some row → AreMet (take at rows) (refs row)
 
 -- ---- a row more
 
@@ -54,21 +50,21 @@ which at n = by (nat_lt at n) refl (nat_lt n at) refl
 pub refers-none : RefersBack []
 refers-none = λ at row is. absurd (let e : None ≡ Some row = is in cc)
 
-pub refers-more : (rows : List Entry) (row : Entry) → RefersBack rows → AreMet rows (references row) → RefersBack (rows ++ row ∷ [])
+pub refers-more : (rows : List Entry) (row : Entry) → RefersBack rows → AreMet rows (refs row) → RefersBack (rows ++ row ∷ [])
 refers-more rows row back met = λ at one is. by at one is (which at (length rows))
   where
     by : (at : ℕ) (one : Entry) → slice_get (rows ++ row ∷ []) at ≡ Some one → (at < length rows) ⊎ ((at ≡ length rows) ⊎ (suc (length rows) ≤ at))
-        → AreMet (take at (rows ++ row ∷ [])) (references one)
+        → AreMet (take at (rows ++ row ∷ [])) (refs one)
     by at one is (inl before) =
-        subst (λ (front : List Entry). AreMet front (references one)) (sym (take-append-le at rows (row ∷ []) (omega arith)))
+        subst (λ (front : List Entry). AreMet front (refs one)) (sym (take-append-le at rows (row ∷ []) (omega arith)))
         (back at one (sym (get_left rows (row ∷ []) at before) ∙ is))
     by at one is (inr (inl here)) =
         let found : slice_get (rows ++ row ∷ []) (length rows) ≡ Some one =
         subst (λ (n : ℕ). slice_get (rows ++ row ∷ []) n ≡ Some one) here is in
         let same : row ≡ one = some_same row one (sym (get_seam rows row) ∙ found) in
-        subst (λ (n : ℕ). AreMet (take n (rows ++ row ∷ [])) (references one)) (sym here)
-        (subst (λ (front : List Entry). AreMet front (references one)) (sym (take-append_seam rows (row ∷ [])))
-        (subst (λ (it : Entry). AreMet rows (references it)) same met))
+        subst (λ (n : ℕ). AreMet (take n (rows ++ row ∷ [])) (refs one)) (sym here)
+        (subst (λ (front : List Entry). AreMet front (refs one)) (sym (take-append_seam rows (row ∷ [])))
+        (subst (λ (it : Entry). AreMet rows (refs it)) same met))
     by at one is (inr (inr past)) =
         absurd (let none : slice_get (rows ++ row ∷ []) at ≡ None = slice_get_past (rows ++ row ∷ []) at (let e = length_more rows row in omega arith) in
         let e : None ≡ Some one = sym none ∙ is in cc)
@@ -109,14 +105,14 @@ met_at rows at row sound is =
 
 pub sound-back : (rows : List Entry) → IsSound rows → RefersBack rows
 sound-back rows sound = λ at row is.
-    each_back (λ (want : Missing). is_met (take at rows) want ≡ true) (own_wants row) (references row) (met_at rows at row sound is)
+    each_back (λ (want : Missing). is_met (take at rows) want ≡ true) (own_wants row) (refs row) (met_at rows at row sound is)
 
 -- ---- URNs of their own
 
 -- what a row that is to stay wants first
 met_own : (before : List Entry) (row : Entry) → row.doomed ≡ false → AreMet before (wants row) → not (list_any (keeps_urn row.urn) before) ≡ true
 met_own before row stays met =
-    (subst (λ (b : Bool). AreMet before ((if b then [] else Twice row.urn ∷ []) ++ references row)) stays met).0
+    (subst (λ (b : Bool). AreMet before ((if b then [] else Twice row.urn ∷ []) ++ refs row)) stays met).0
 
 any_taken : (p : Entry → Bool) (rows : List Entry) (i j : ℕ) (d : Entry) → i < j → j ≤ length rows → p (get_or rows i d) ≡ true
     → list_any p (take j rows) ≡ true
@@ -184,5 +180,5 @@ sound-from rows back apart = λ at. by at (slice_get rows at) refl
         → option_and_then (λ (row : Entry). first_unmet (is_met (take at rows)) row) (slice_get rows at) ≡ None
     by at None is = subst (λ (o : Option Entry). option_and_then (λ (row : Entry). first_unmet (is_met (take at rows)) row) o ≡ None) (sym is) refl
     by at (Some row) is = subst (λ (o : Option Entry). option_and_then (λ (one : Entry). first_unmet (is_met (take at rows)) one) o ≡ None) (sym is)
-        (met_none (take at rows) row (each-append (λ (want : Missing). is_met (take at rows) want ≡ true) (own_wants row) (references row)
+        (met_none (take at rows) row (each-append (λ (want : Missing). is_met (take at rows) want ≡ true) (own_wants row) (refs row)
         (own_met rows at row apart is) (back at row is)))

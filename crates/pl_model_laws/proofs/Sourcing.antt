@@ -4,7 +4,7 @@ use Rattle.std.specs.List.{list_any}
 use Rattle.pl_reference.specs.declared.reference.ProviderRef.{ProviderRef}
 use Rattle.pl_state.specs.Chain.{last_from, last_provider, or_else_place, provider_row_of, some_passes}
 use Rattle.pl_state.specs.Kinds.{is_provider_goal}
-use Rattle.pl_state.specs.Sound.{is_provider}
+use Rattle.pl_state.specs.References.{is_provider}
 use Rattle.pl_state.specs.declared.entry.Entry.{Entry}
 use Rattle.pl_state.specs.declared.goal.Goal.{Goal}
 use Rattle.pl_state.specs.declared.pending.Pending.{Pending}
@@ -20,7 +20,7 @@ use Rattle.pl_model.specs.Tickets.{is_coming, is_source, lane_free, lanes_from, 
 use Rattle.pl_model.specs.Recording.{only_if}
 use Rattle.pl_model.specs.Claims.{claimer_of, numbered}
 use Rattle.pl_model.specs.Decisions.{Turn, checked_at, is_provider_unknown, needs_check, number_at, wants_diff}
-use Rattle.pl_model.specs.Due.{asks_check, asks_diff, checks_of, deletes_of, for_decided, goal_numbers, imports_read, invokes_of, is_asked, is_invoke, is_placed, is_unsent, is_wanted_op, op_of_goal, operations_of, pending_numbers, provider_recorded, reads_of, request_numbers, sends_goal, sends_of, source_of_op, wants_lane, way_is_free}
+use Rattle.pl_model.specs.Due.{asks_check, asks_diff, checks_of, deletes_of, for_decided, goal_numbers, imports_read, invokes_of, is_asked, is_invoke, is_placed, is_unsent, is_wanted_op, op_of_goal, operations_of, passes_limit, pending_numbers, provider_recorded, reads_of, request_numbers, sends_goal, sends_of, source_of_op, to_send, wants_lane, way_is_free}
 use Rattle.pl_model.specs.Known.{Asked, Known, asked_at, goal_at, is_recorded, next_turn}
 use Rattle.pl_model.specs.Rows.{pending_at, row_numbers, source_by, source_of_goal, source_of_pending, source_of_provider, source_of_row}
 use Rattle.pl_model_laws.proofs.Growing.{equal_numbers}
@@ -220,13 +220,16 @@ module _ (known : Known) where
   -- a provider for which a lane is to be started is there
   pub wants-there : (wanted : Source) → wants_lane known wanted ≡ true → IsSourceThere known wanted
   wants-there wanted h =
-      let some : list_any (λ about. is_source (source_of_op known about) wanted && is_wanted_op known about) (operations_of known) ≡ true =
+      let some : list_any (λ about. is_source (source_of_op known about) wanted && is_wanted_op known about
+      && not (passes_limit known (to_send about))) (operations_of known) ≡ true =
       and_left _ (is_none (lane_free known.history wanted))
       (and_left _ (not (list_any (is_coming known.history) (lanes_from known.history wanted)))
       (and_left _ (nat_lt (length (lanes_from known.history wanted)) known.run.parallel) h)) in
-      let one = each_any Ordinary (λ about. is_source (source_of_op known about) wanted && is_wanted_op known about)
-      (operations_of known) ordinary-each some in
+      let one = each_any Ordinary (λ about. is_source (source_of_op known about) wanted && is_wanted_op known about
+      && not (passes_limit known (to_send about))) (operations_of known) ordinary-each some in
+      let wants : (is_source (source_of_op known one.0) wanted && is_wanted_op known one.0) ≡ true =
+      and_left _ (not (passes_limit known (to_send one.0))) one.2 in
       asked-source one.0 wanted one.1
       (and_right (not (was_begun known.history one.0)) (is_asked known one.0)
-      (and_right (is_source (source_of_op known one.0) wanted) (is_wanted_op known one.0) one.2))
-      (source_is (source_of_op known one.0) wanted (and_left _ (is_wanted_op known one.0) one.2))
+      (and_right (is_source (source_of_op known one.0) wanted) (is_wanted_op known one.0) wants))
+      (source_is (source_of_op known one.0) wanted (and_left _ (is_wanted_op known one.0) wants))

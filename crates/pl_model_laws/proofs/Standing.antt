@@ -21,11 +21,12 @@ use Rattle.pl_decide.specs.declared.decision.Decision.TheVariants as decision
 use Rattle.pl_decide.specs.declared.decision.ProviderChange.{ProviderChange}
 use Rattle.pl_decide.specs.declared.problem.Problem.{Problem}
 use Rattle.pl_model.specs.Run.{Fixed, Pairs}
-use Rattle.pl_model.specs.Tickets.{Closed, answers_of, closed_by, op_at}
+use Rattle.pl_model.specs.Tickets.{Closed, answers_of, op_at}
 use Rattle.pl_model.specs.Recording.{has_number, is_thing, goal_of_op, only_if, recorded_by, recorded_by_reply, recorded_of}
-use Rattle.pl_model.specs.Claims.{Decided, claimed_row, first_some, id_of_row, numbered}
+use Rattle.pl_model.specs.Claims.{Decided, claimed_row, id_of_row, numbered}
 use Rattle.pl_model.specs.Decisions.{Turn, number_at, turn_in, turn_of, chain_refusal, change_at, checked_at, claim_at, decided_at, decided_by, decided_next, decided_of, decision_at, diff_at, final_decision, is_refused, limit_refusal, refused_by}
-use Rattle.pl_model.specs.Entries.{Result, entry_of, goal_entry, numbers_in, recorded_entry, recording_of, reference_to, result_answered, result_kept, result_of_keep, result_of_reply, told_outputs, with_outputs, is_keep, is_update, kept_changed, kept_new, kept_planned, kept_provider_id, kept_same}
+use Rattle.pl_model.specs.Claims.{kept_provider_id}
+use Rattle.pl_model.specs.Entries.{Result, entry_of, goal_entry, numbers_in, recorded_entry, recording_of, reference_to, result_answered, result_by, result_from, result_of_keep, result_of_reply, told_outputs, with_outputs, is_keep, is_update, kept_changed, kept_new, kept_planned, kept_same}
 use Rattle.pl_model.specs.History.{known_of}
 use Rattle.pl_model.specs.Known.{Known, claim_of, decided_goal, goal_at, is_recorded, next_turn, turn_of_goal}
 use Rattle.pl_model_laws.proofs.Growing.{equal_numbers, numbered_below, or_true, decided_as}
@@ -45,10 +46,10 @@ some_first : {X : Type 0} (first second : Option X) → is_some first ≡ true �
 some_first None second h = absurd (let e : false ≡ true = h in cc)
 some_first (Some x) second h = refl
 
--- a choice is there where one of the two is
-some_either : {X : Type 0} (first second : Option X) → (is_some first || is_some second) ≡ true → is_some (option_or first second) ≡ true
-some_either None second h = h
-some_either (Some x) second h = refl
+-- one of two is there where the second is
+some_second : {X : Type 0} (first second : Option X) → is_some second ≡ true → is_some (option_or first second) ≡ true
+some_second None second h = h
+some_second (Some x) second h = refl
 
 -- ---- claims
 
@@ -69,7 +70,7 @@ turn_number run answers (goal ∷ earlier) decided turn h =
     by false is rest h = rest h
 
 -- a decided goal is not the first without a decision
-no_turn : (known : Known) (number : ℕ) (one : Decided) → decided_goal known number ≡ Some one → turn_of_goal known number ≡ None
+pub no_turn : (known : Known) (number : ℕ) (one : Decided) → decided_goal known number ≡ Some one → turn_of_goal known number ≡ None
 no_turn known number one h = by (next_turn known) refl
   where
     by : (o : Option Turn) → next_turn known ≡ o
@@ -105,70 +106,97 @@ abbrev pub closed_with : Reply → Op → Closed
 closed_with said about = record { op = about; reply = said }
 
 module _ (known : Known) (number : ℕ) (goal : Goal) (one : Decided) where
-  -- what the keeps of a history give to the goal's entry
-  abbrev pub kept_in : List Event → Option Result
-  kept_in history = first_some (λ (event : Event). result_kept known number goal one event.what) history
-
-  -- what the answered operations give to it
-  abbrev answered_in : List Closed → Option Result
-  answered_in answers = first_some (result_answered known number one) answers
-
-  -- whether the history or its answers tell what recorded the goal
-  abbrev is_found : List Event → Bool
-  is_found past = is_some (kept_in past) || is_some (answered_in (answers_of past))
+  -- what the events of a history gave to the goal's entry
+  abbrev pub given_in : List Event → Option Result
+  given_in history = result_from known number goal one history
 
   -- a history that records the goal tells what recorded it
   abbrev Finds : List Event → Type 0
-  Finds past = has_number (recorded_of past) number ≡ true → is_found past ≡ true
+  Finds past = has_number (recorded_of past) number ≡ true → is_some (given_in past) ≡ true
 
   -- an answer that records the goal gives its result
   closed_finds : (past : List Event) (closed : Closed) → Finds past
       → has_number (cons_option (recorded_by_reply closed) (recorded_of past)) number ≡ true
-      → (is_some (kept_in past) || is_some (option_or (result_answered known number one closed) (answered_in (answers_of past)))) ≡ true
+      → is_some (option_or (given_in past) (result_answered known number one closed)) ≡ true
   closed_finds past closed rest h = by (is_thing closed.reply) refl (goal_of_op closed.op) h
     where
       same : (b : Bool) → is_thing closed.reply ≡ true → (b || has_number (recorded_of past) number) ≡ true
-          → (is_some (kept_in past) || is_some (option_or (only_if (b || false)
-          (result_of_reply (claimed_row known.run one.claim) closed.reply)) (answered_in (answers_of past)))) ≡ true
+          → is_some (option_or (given_in past) (only_if (b || false) (result_of_reply (claimed_row known.run one.claim) closed.reply))) ≡ true
       same true thing h =
-          ap (λ (there : Bool). is_some (kept_in past) || there)
-          (some_first (result_of_reply (claimed_row known.run one.claim) closed.reply) (answered_in (answers_of past))
-          (thing_result (claimed_row known.run one.claim) closed.reply thing)) ∙ or_true (is_some (kept_in past))
-      same false thing h = rest h
+          some_second (given_in past) (result_of_reply (claimed_row known.run one.claim) closed.reply)
+          (thing_result (claimed_row known.run one.claim) closed.reply thing)
+      same false thing h = some_first (given_in past) None (rest h)
 
       by : (thing : Bool) → is_thing closed.reply ≡ thing → (o : Option ℕ)
           → has_number (cons_option (only_if thing o) (recorded_of past)) number ≡ true
-          → (is_some (kept_in past) || is_some (option_or (only_if (has_number (numbers_in (only_if thing o)) number)
-          (result_of_reply (claimed_row known.run one.claim) closed.reply)) (answered_in (answers_of past)))) ≡ true
-      by false is o h = rest h
-      by true is None h = rest h
+          → is_some (option_or (given_in past) (only_if (has_number (numbers_in (only_if thing o)) number)
+          (result_of_reply (claimed_row known.run one.claim) closed.reply))) ≡ true
+      by false is o h = some_first (given_in past) None (rest h)
+      by true is None h = some_first (given_in past) None (rest h)
       by true is (Some other) h = same (other == number) is h
 
   -- so does one event more
   step_finds : (past : List Event) (what : What) → Finds past
       → has_number (cons_option (recorded_by past what) (recorded_of past)) number ≡ true
-      → (is_some (option_or (result_kept known number goal one what) (kept_in past))
-      || is_some (answered_in (cons_option (closed_by past what) (answers_of past)))) ≡ true
+      → is_some (option_or (given_in past) (result_by known number goal one past what)) ≡ true
   step_finds past (Kept kept fresh) rest h = by (kept == number) h
     where
       by : (b : Bool) → (b || has_number (recorded_of past) number) ≡ true
-          → (is_some (option_or (only_if b (Some (result_of_keep goal (claimed_row known.run one.claim) one fresh))) (kept_in past))
-          || is_some (answered_in (answers_of past))) ≡ true
-      by true h = refl
-      by false h = rest h
+          → is_some (option_or (given_in past) (option_or (only_if b (Some (result_of_keep goal (claimed_row known.run one.claim) one fresh))) None)) ≡ true
+      by true h = some_second (given_in past) (Some (result_of_keep goal (claimed_row known.run one.claim) one fresh)) refl
+      by false h = some_first (given_in past) None (rest h)
   step_finds past (Answered ticket said) rest h = by (op_at past ticket) h
     where
       by : (o : Option Op)
           → has_number (cons_option (option_and_then recorded_by_reply (option_map (closed_with said) o)) (recorded_of past)) number ≡ true
-          → (is_some (kept_in past) || is_some (answered_in (cons_option (option_map (closed_with said) o) (answers_of past)))) ≡ true
-      by None h = rest h
+          → is_some (option_or (given_in past) (option_and_then (result_answered known number one) (option_map (closed_with said) o))) ≡ true
+      by None h = some_first (given_in past) None (rest h)
       by (Some about) h = closed_finds past (closed_with said about) rest h
-  step_finds past _ rest h = rest h
+  step_finds past _ rest h = some_first (given_in past) None (rest h)
 
-  -- what recorded a goal stands in the history or among the answers
+  -- what recorded a goal stands in the history
   recorded_finds : (history : List Event) → Finds history
   recorded_finds [] h = absurd (let e : false ≡ true = h in cc)
   recorded_finds (event ∷ past) h = step_finds past event.what (recorded_finds past) h
+
+  -- an event that records another goal gives nothing
+  other_gives : (past : List Event) (what : What) → has_number (cons_option (recorded_by past what) []) number ≡ false
+      → result_by known number goal one past what ≡ None
+  other_gives past (Kept kept fresh) h = by (kept == number) h
+    where
+      by : (b : Bool) → (b || false) ≡ false
+          → option_or (only_if b (Some (result_of_keep goal (claimed_row known.run one.claim) one fresh))) None ≡ None
+      by true h = absurd (let e : true ≡ false = h in cc)
+      by false h = refl
+  other_gives past (Answered ticket said) h = by (op_at past ticket) h
+    where
+      given : (o : Option ℕ) (r : Option Result) → has_number (cons_option o []) number ≡ false → only_if (has_number (numbers_in o) number) r ≡ None
+      given None r h = refl
+      given (Some other) r h = ap (λ (b : Bool). only_if b r) h
+
+      by : (o : Option Op) → has_number (cons_option (option_and_then recorded_by_reply (option_map (closed_with said) o)) []) number ≡ false
+          → option_and_then (result_answered known number one) (option_map (closed_with said) o) ≡ None
+      by None h = refl
+      by (Some about) h =
+          given (recorded_by_reply (closed_with said about)) (result_of_reply (claimed_row known.run one.claim) said) h
+  other_gives past _ h = refl
+
+  -- a history that does not record the goal gives nothing to its entry
+  pub unrecorded-gives : (history : List Event) → has_number (recorded_of history) number ≡ false → given_in history ≡ None
+  unrecorded-gives [] h = refl
+  unrecorded-gives (event ∷ past) h =
+      let parts = by (recorded_by past event.what) h in
+      ap (λ (o : Option Result). option_or o (result_by known number goal one past event.what)) (unrecorded-gives past parts.1)
+      ∙ other_gives past event.what parts.0
+    where
+      neither : (a b : Bool) → (a || b) ≡ false → ((a || false) ≡ false) × (b ≡ false)
+      neither true b h = absurd (let e : true ≡ false = h in cc)
+      neither false b h = (refl, h)
+
+      by : (o : Option ℕ) → has_number (cons_option o (recorded_of past)) number ≡ false
+          → (has_number (cons_option o []) number ≡ false) × (has_number (recorded_of past) number ≡ false)
+      by None h = (refl, h)
+      by (Some other) h = neither (other == number) (has_number (recorded_of past) number) h
 
 -- the answers that are told of are those of the history
 pub answers_as : (run : Fixed) (history : List Event) → (known_of run history).answers ≡ answers_of (known_of run history).history
@@ -182,11 +210,7 @@ pub recording-there : (run : Fixed) (history : List Event) (number : ℕ) (goal 
     → (result : Result) × (recording_of (known_of run history) number goal one ≡ Some result)
 recording-there run history number goal one h =
     let known : Known = known_of run history in
-    let there : is_some (option_or (kept_in known number goal one known.history) (answered_in known number goal one (answers_of known.history))) ≡ true =
-    some_either _ _ (recorded_finds known number goal one known.history h) in
-    some_there (recording_of known number goal one)
-    (subst (λ (answers : List Closed). is_some (option_or (kept_in known number goal one known.history) (answered_in known number goal one answers)) ≡ true)
-    (sym (answers_as run history)) there)
+    some_there (recording_of known number goal one) (recorded_finds known number goal one known.history h)
 
 -- ---- entries
 
@@ -199,6 +223,7 @@ pub record Stands (known : Known) (goal : Goal) (result : Result) (row : Entry) 
   pub provider : row.provider ≡ option_and_then (reference_to known) goal.provider
   pub dependencies : row.dependencies ≡ goal.dependencies
   pub property_dependencies : row.property_dependencies ≡ goal.property_dependencies
+  pub deleted_with : row.deleted_with ≡ goal.deleted_with
 
 -- told outputs change outputs alone
 told_stands : (known : Known) (goal : Goal) (one : Decided) (result : Result) (told : Option Pairs)
@@ -211,6 +236,7 @@ told_stands known goal one result None = record {
   provider = refl;
   dependencies = refl;
   property_dependencies = refl;
+  deleted_with = refl;
 }
 told_stands known goal one result (Some outputs) = record {
   urn = refl;
@@ -220,10 +246,11 @@ told_stands known goal one result (Some outputs) = record {
   provider = refl;
   dependencies = refl;
   property_dependencies = refl;
+  deleted_with = refl;
 }
 
 -- the entry, before outputs are told of it
-entry_is : (known : Known) (number : ℕ) (goal : Goal) (one : Decided) (result : Result)
+pub entry_is : (known : Known) (number : ℕ) (goal : Goal) (one : Decided) (result : Result)
     → goal_at known number ≡ Some goal → decided_goal known number ≡ Some one → recording_of known number goal one ≡ Some result
     → entry_of known number ≡ Some (goal_entry known goal one result)
 entry_is known number goal one result here decided recorded =

@@ -6,6 +6,7 @@ use Rattle.std.specs.Option.{option_or}
 use Rattle.pl_urn.specs.Grammar.{package_of}
 use Rattle.pl_value.specs.Inside.{any_field_unknown}
 use Rattle.pl_options.specs.GoalOf.{GoalResult, given, goal_of}
+use Rattle.pl_state.specs.References.{further_urns}
 use Rattle.pl_state.specs.Chain.{some_passes}
 use Rattle.pl_state.specs.Kinds.{is_provided}
 use Rattle.pl_state.specs.declared.goal.Goal.{Goal}
@@ -213,12 +214,10 @@ module _ (first last : Known) (names : Names first.goals last.goals)
   -- the goals of references stay recorded
   references_more : (goal : Goal) → references_recorded first goal ≡ true → references_recorded last goal ≡ true
   references_more goal h =
-      and_more _ _ _ _ (and_more _ _ _ _ (and_more _ _ _ _
+      and_more _ _ _ _ (and_more _ _ _ _
       (none_more (is_recorded_urn first) (is_recorded_urn last) urn_stays goal.parent)
       (none_more (is_recorded first) (is_recorded last) stays goal.provider))
-      (all_more (is_recorded_urn first) (is_recorded_urn last) urn_stays goal.dependencies))
-      (all_more (λ pair. list_all (is_recorded_urn first) pair.1) (λ pair. list_all (is_recorded_urn last) pair.1)
-      (λ pair. all_more (is_recorded_urn first) (is_recorded_urn last) urn_stays pair.1) goal.property_dependencies)
+      (all_more (is_recorded_urn first) (is_recorded_urn last) urn_stays (further_urns goal))
       h
 
 pub references-stay : (run : Fixed) (event : Event) (past : List Event) (goal : Goal)
@@ -258,7 +257,7 @@ pub provider_recorded : (known : Known) (goal : Goal) (n : ℕ) → references_r
     → is_recorded known n ≡ true
 provider_recorded known goal n h is =
     subst (λ (o : Option ℕ). none_or (is_recorded known) o ≡ true) is
-    (and_right (none_or (is_recorded_urn known) goal.parent) _ (and_left _ _ (and_left _ _ h)))
+    (and_right (none_or (is_recorded_urn known) goal.parent) _ (and_left _ _ h))
 
 module _ (first last : Known) (runs : first.run ≡ last.run)
     (stays : (n : ℕ) (one : Decided) → decided_goal first n ≡ Some one → decided_goal last n ≡ Some one)

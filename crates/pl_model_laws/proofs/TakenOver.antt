@@ -7,7 +7,7 @@ use Rattle.pl_state.specs.declared.entry.Entry.{Entry}
 use Rattle.pl_state.specs.declared.goal.Goal.{Goal}
 use Rattle.pl_events.specs.declared.event.Event.{Event}
 use Rattle.pl_model.specs.Run.{Fixed, Spelling, rows_of}
-use Rattle.pl_model.specs.Claims.{Decided, claimed_row, claimer_of, is_row}
+use Rattle.pl_model.specs.Claims.{Decided, claimed_row, claimer_of, is_create_first, is_row}
 use Rattle.pl_model.specs.Entries.{Turning, turning_of, turnings}
 use Rattle.pl_model.specs.History.{known_of}
 use Rattle.pl_model.specs.Known.{Known, claim_row, decided_goal, goal_at, is_recorded}
@@ -18,6 +18,7 @@ use Rattle.pl_model_laws.specs.Apart.{KeepsApart}
 use Rattle.pl_model_laws.proofs.Claiming.{claims-allowed, was-made, where_found}
 use Rattle.pl_model_laws.proofs.Growing.{equal_numbers, or_true, run_of, same_number}
 use Rattle.pl_model_laws.proofs.Leaving.{claimed-once, neither}
+use Rattle.pl_model_laws.proofs.Once.{not_true}
 use Rattle.pl_model_laws.proofs.Recorded.{recorded-held}
 use Rattle.pl_model_laws.proofs.Standing.{claim-of-decided, some_there}
 use Rattle.pl_model_laws.proofs.Staying.{some_same}
@@ -197,6 +198,7 @@ module _ (run : Fixed) (history : List Event) (all_decided : AllDecided run hist
     pub recorded : is_recorded known number ≡ true
     pub decided : decided_goal known number ≡ Some one
     pub claims : is_row one.claim row ≡ true
+    pub creates_none : is_create_first one.decision ≡ false
 
   -- a row that was taken over has one
   pub taker : (row : ℕ) → is_taken_over known row ≡ true → Taker row
@@ -206,7 +208,15 @@ module _ (run : Fixed) (history : List Event) (all_decided : AllDecided run hist
           → some_passes (λ (n : ℕ). not (stands_beside known n)) (only_if b (Some number)) ≡ true → Taker row
       at number is true recorded h =
           let found = where_found (λ (it : Decided). is_row it.claim row) known.decided number is in
-          record { number = number; one = found.0; recorded = recorded; decided = found.1; claims = found.2 }
+          record {
+            number = number;
+            one = found.0;
+            recorded = recorded;
+            decided = found.1;
+            claims = found.2;
+            creates_none = sym (ap (λ (o : Option Decided). some_passes (λ (it : Decided). is_create_first it.decision) o) found.1)
+                ∙ not_true (stands_beside known number) h;
+          }
       at number is false recorded h = absurd (let e : false ≡ true = h in cc)
 
       by : (o : Option ℕ) → claimer_of known.decided row ≡ o

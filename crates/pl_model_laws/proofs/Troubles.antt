@@ -9,7 +9,7 @@ use Rattle.pl_decide.specs.declared.decision.Decision.{Decision}
 use Rattle.pl_decide.specs.declared.decision.Decision.TheVariants.{Refused}
 use Rattle.pl_decide.specs.declared.problem.Problem.{Problem}
 use Rattle.pl_decide.specs.declared.problem.Problem.TheVariants as problem
-use Rattle.pl_model.specs.Run.{Fixed, Spelling, rows_of}
+use Rattle.pl_model.specs.Run.{Fixed, Spelling, is_preview, rows_of}
 use Rattle.pl_model.specs.Recording.{has_number}
 use Rattle.pl_model.specs.Claims.{Decided, chain_of_goal, claimer_of, first_some, is_chained, is_claimed, is_create_first, is_delete_first, is_row, numbered}
 use Rattle.pl_model.specs.Decisions.{is_refused}
@@ -17,9 +17,11 @@ use Rattle.pl_model.specs.History.{known_of}
 use Rattle.pl_model.specs.Known.{Known, decided_goal, has_problem}
 use Rattle.pl_model.specs.Legal.{IsLegal}
 use Rattle.pl_model.specs.Problems.{has_deleted, is_claimed_beside, lacking_in, lacks_provider, missing_provider, refusal_in}
-use Rattle.pl_model.specs.Rows.{is_marked, is_replaced, row_at, row_numbers, stands_beside, takes_along}
+use Rattle.pl_model.specs.Rows.{is_left, is_marked, is_replaced, row_at, row_numbers, stands_beside, takes_along}
+use Rattle.pl_model_laws.specs.Apart.{KeepsApart}
 use Rattle.pl_model_laws.proofs.Calm.{calm-before, decided-grown, first_none, newly-none, no-decision, no-provider, none-decided, option_map_none, range_each}
 use Rattle.pl_model_laws.proofs.Claiming.{claims-allowed, numbered_behind, numbered_passes, numbered_there, passing_number, was-made, where_found}
+use Rattle.pl_model_laws.proofs.Going.{provided-later}
 use Rattle.pl_model_laws.proofs.Growing.{Grown, numbered_below, or_true, run_of}
 use Rattle.pl_model_laws.proofs.Leaving.{claimer_is, claimer_parts, known-apart}
 use Rattle.pl_model_laws.proofs.Once.{and_left, and_right}
@@ -70,23 +72,23 @@ or_second a b h = ap (λ (it : Bool). a || it) h ∙ or_true a
 
 -- a row that goes has its provider where its lack is not found
 has_provider : (known : Known) (one : Decided) (row : ℕ) (entry : Entry) → lacking_in known one row ≡ None
-    → row_at known row ≡ Some entry → has_deleted known one row ≡ true → lacks_provider entry ≡ false
-has_provider known one row entry none at goes = by (lacks_provider entry) refl
+    → row_at known row ≡ Some entry → has_deleted known one row ≡ true → lacks_provider known row ≡ false
+has_provider known one row entry none at goes = by (lacks_provider known row) refl
   where
-    by : (b : Bool) → lacks_provider entry ≡ b → b ≡ false
+    by : (b : Bool) → lacks_provider known row ≡ b → b ≡ false
     by false is = refl
     by true is =
         let lacking : lacking_in known one row ≡ Some entry.urn =
-        ap (λ (b : Bool). if b && some_passes lacks_provider (row_at known row)
+        ap (λ (b : Bool). if b && lacks_provider known row
         then option_map (λ (it : Entry). it.urn) (row_at known row) else None) goes
-        ∙ ap (λ (o : Option Entry). if some_passes lacks_provider o then option_map (λ (it : Entry). it.urn) o else None) at
-        ∙ ap (λ (b : Bool). if b then Some entry.urn else None) is in
+        ∙ ap (λ (b : Bool). if b then option_map (λ (it : Entry). it.urn) (row_at known row) else None) is
+        ∙ ap (λ (o : Option Entry). option_map (λ (it : Entry). it.urn) o) at in
         let nothing : Option (List ℕ) = None in
         absurd (let e : Some entry.urn ≡ nothing = sym lacking ∙ none in cc)
 
 -- so has each row that a goal has deleted which makes no problem
 provider_there : (known : Known) (one : Decided) (row : ℕ) (entry : Entry) → missing_provider known one ≡ None
-    → row_at known row ≡ Some entry → has_deleted known one row ≡ true → lacks_provider entry ≡ false
+    → row_at known row ≡ Some entry → has_deleted known one row ≡ true → lacks_provider known row ≡ false
 provider_there known one row entry none at goes =
     let inside : row < length (rows_of known.run) = slice_get_within (rows_of known.run) row entry at in
     has_provider known one row entry
@@ -218,33 +220,34 @@ module _ (run : Fixed) (spelling : Spelling) (history : List Event) (n row : ℕ
             (subst (λ (fixed : Fixed). has_number (chain_of_goal fixed one) row ≡ true) (sym (run_of run past)) chained)
             (and_right (has_number (chain_of_goal known.run one) row) _ h)
 
-  -- so its lack of a provider was a problem there
-  provided_then : (entry : Entry) → row_at known row ≡ Some entry → takes_along known row one ≡ true
-      → (past : List Event) → Later run past known → IsLegal run spelling past → has_problem (known_of run past) ≡ false
-      → decided_goal (known_of run past) n ≡ Some one → lacks_provider entry ≡ false
-  provided_then entry at takes [] later legal calm h = absurd (none-decided run n one h)
-  provided_then entry at takes (event ∷ past) later legal calm h =
-      by (nat_lt n (length (known_of run past).decided)) refl
-      (provided_then entry at takes past (later-before run spelling event past known legal.1 later) legal.0
-      (calm-before run event past calm))
-    where
-      by : (b : Bool) → nat_lt n (length (known_of run past).decided) ≡ b
-          → (decided_goal (known_of run past) n ≡ Some one → lacks_provider entry ≡ false) → lacks_provider entry ≡ false
-      by true is rest =
-          rest (numbered_behind (known_of run past).decided (known_of run (event ∷ past)).decided n one (decided-grown run event past) h
-          (grind (arith, nat_tests)))
-      by false is rest =
-          provider_there (known_of run (event ∷ past)) one row entry
-          (newly-none (missing_provider (known_of run (event ∷ past))) run event past n one (no-provider run event past calm)
-          (grind (arith, nat_tests)) h)
-          (ap (λ (fixed : Fixed). slice_get (rows_of fixed) row) (run_of run (event ∷ past) ∙ sym (run_of run history)) ∙ at)
-          (deleted_then (event ∷ past) later h takes)
+  -- so its lack of a provider was a problem there, and it has one for as long as it is left
+  module _ (legal : IsLegal run spelling history) (real : is_preview run.mode ≡ false) (apart : KeepsApart (rows_of run)) (entry : Entry)
+      (at : row_at known row ≡ Some entry) (left : is_left known row ≡ true) (takes : takes_along known row one ≡ true) where
+    provided_then : (past : List Event) → Later run past known → IsLegal run spelling past → has_problem (known_of run past) ≡ false
+        → decided_goal (known_of run past) n ≡ Some one → lacks_provider known row ≡ false
+    provided_then [] later legal_then calm h = absurd (none-decided run n one h)
+    provided_then (event ∷ past) later legal_then calm h =
+        by (nat_lt n (length (known_of run past).decided)) refl
+        (provided_then past (later-before run spelling event past known legal_then.1 later) legal_then.0 (calm-before run event past calm))
+      where
+        by : (b : Bool) → nat_lt n (length (known_of run past).decided) ≡ b
+            → (decided_goal (known_of run past) n ≡ Some one → lacks_provider known row ≡ false) → lacks_provider known row ≡ false
+        by true is rest =
+            rest (numbered_behind (known_of run past).decided (known_of run (event ∷ past)).decided n one (decided-grown run event past) h
+            (grind (arith, nat_tests)))
+        by false is rest =
+            provided-later run spelling history legal (event ∷ past) later legal_then real apart row left
+            (provider_there (known_of run (event ∷ past)) one row entry
+            (newly-none (missing_provider (known_of run (event ∷ past))) run event past n one (no-provider run event past calm)
+            (grind (arith, nat_tests)) h)
+            (ap (λ (fixed : Fixed). slice_get (rows_of fixed) row) (run_of run (event ∷ past) ∙ sym (run_of run history)) ∙ at)
+            (deleted_then (event ∷ past) later h takes))
 
--- where no problem stands, each row that a goal takes along has the provider that it must be sent to
+-- where no problem stands, each row that a goal takes along and that is left has the provider that it must be sent to
 pub lacking-trouble : (run : Fixed) (spelling : Spelling) (history : List Event) (n row : ℕ) (one : Decided) (entry : Entry)
-    → IsLegal run spelling history → has_problem (known_of run history) ≡ false
+    → is_preview run.mode ≡ false → KeepsApart (rows_of run) → IsLegal run spelling history → has_problem (known_of run history) ≡ false
     → decided_goal (known_of run history) n ≡ Some one → is_delete_first one.decision ≡ true
     → takes_along (known_of run history) row one ≡ true → row_at (known_of run history) row ≡ Some entry
-    → lacks_provider entry ≡ false
-lacking-trouble run spelling history n row one entry legal calm decided deletes takes at =
-    provided_then run spelling history n row one decided deletes entry at takes history (later-now run history) legal calm decided
+    → is_left (known_of run history) row ≡ true → lacks_provider (known_of run history) row ≡ false
+lacking-trouble run spelling history n row one entry real apart legal calm decided deletes takes at left =
+    provided_then run spelling history n row one decided deletes legal real apart entry at left takes history (later-now run history) legal calm decided

@@ -18,7 +18,7 @@ abbrev pub turned_by : List Turning → List ℕ → List ℕ
 turned_by turns urn = fold (λ (text : List ℕ) (turning : Turning). turned turning text) urn turns
 
 -- the values of a property with the URNs that they depend on
-abbrev Keyed : Type 0
+abbrev pub Keyed : Type 0
 Keyed = List ℕ × List (List ℕ)
 
 abbrev pub keyed_by : (List ℕ → List ℕ) → Keyed → Keyed
@@ -36,6 +36,7 @@ pub record IsTurned (turns : List Turning) (entry later : Entry) : Type 0 where
   pub provider : later.provider ≡ changed entry.provider (λ reference. record reference { urn = turned_by turns reference.urn })
   pub dependencies : later.dependencies ≡ map (turned_by turns) entry.dependencies
   pub property_dependencies : later.property_dependencies ≡ map (keyed_by (turned_by turns)) entry.property_dependencies
+  pub deleted_with : later.deleted_with ≡ option_map (turned_by turns) entry.deleted_with
 
 option_same : {X : Type 0} (o : Option X) → o ≡ option_map (λ (x : X). x) o
 option_same None = refl
@@ -72,6 +73,7 @@ row-turned [] entry = record {
   provider = option_same entry.provider;
   dependencies = sym (map-id entry.dependencies);
   property_dependencies = pairs_same entry.property_dependencies;
+  deleted_with = option_same entry.deleted_with;
 }
 row-turned (turning ∷ turns) entry =
     let rest : IsTurned turns (turned_entry entry turning) (fold turned_entry (turned_entry entry turning) turns) =
@@ -84,6 +86,7 @@ row-turned (turning ∷ turns) entry =
           (λ reference. record reference { urn = turned_by turns reference.urn }) entry.provider;
       dependencies = rest.dependencies ∙ map_twice (turned turning) (turned_by turns) entry.dependencies;
       property_dependencies = rest.property_dependencies ∙ pairs_twice (turned turning) (turned_by turns) entry.property_dependencies;
+      deleted_with = rest.deleted_with ∙ option_twice (turned turning) (turned_by turns) entry.deleted_with;
     }
 
 -- ---- one turn after another

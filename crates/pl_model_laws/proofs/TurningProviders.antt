@@ -1,30 +1,29 @@
--- What refers to a provider's row that a recorded goal took over refers to that goal after the turns of all aliases.
-use Rattle.std.proofs.Common.{◌≡◌, ℕ, ◌==◌, Bool, true, false, not, ◌&&◌, ◌||◌, List, [], ◌∷◌, ◌<◌, length, nat_lt, Option, Some, None, refl, sym, ◌∙◌, ap, arith, slice_get, option_and_then}
-use Rattle.std.proofs.lemmas.Bool.Decides.{nat_tests}
-use Rattle.std.proofs.lemmas.Option.{slice_get_within}
+-- No URN that one alias made is turned by another; so what refers to a provider's row that a recorded goal took over refers
+-- to that goal after the turns of all aliases.
+use Rattle.std.proofs.Common.{◌≡◌, ◌≢◌, ℕ, ◌==◌, Bool, true, false, ◌||◌, List, [], ◌∷◌, AllPairs, reverse, Option, Some, None, refl, sym, ◌∙◌, ap, subst, slice_get}
 use Rattle.std.specs.Bool.{beq}
 use Rattle.std.specs.List.{cons_option}
-use Rattle.pl_state.specs.Chain.{some_passes}
-use Rattle.pl_state.specs.Kinds.{is_of_provider, is_provider_goal, is_provider_row}
+use Rattle.pl_state.specs.Kinds.{is_provider_goal, is_provider_row}
 use Rattle.pl_state.specs.declared.entry.Entry.{Entry}
 use Rattle.pl_state.specs.declared.goal.Goal.{Goal}
 use Rattle.pl_events.specs.declared.event.Event.{Event}
 use Rattle.pl_model.specs.Run.{Fixed, Spelling, is_preview, rows_of}
-use Rattle.pl_model.specs.Recording.{has_number, only_if, recorded_by, recorded_of, removed_of}
-use Rattle.pl_model.specs.Claims.{Decided, claimer_of, is_create_first, is_delete_first, is_row}
+use Rattle.pl_model.specs.Recording.{has_number, recorded_by, recorded_of}
+use Rattle.pl_model.specs.Claims.{Decided, is_row}
 use Rattle.pl_model.specs.Entries.{Turning, turning_of, turnings}
 use Rattle.pl_model.specs.History.{known_of}
 use Rattle.pl_model.specs.Known.{Known, decided_goal, goal_at, is_recorded}
 use Rattle.pl_model.specs.Legal.{IsLegal}
-use Rattle.pl_model.specs.Rows.{is_left, is_marked, is_taken_over, recorded_claimer, stands_beside}
+use Rattle.pl_model.specs.Rows.{is_left, is_marked, is_taken_over}
 use Rattle.pl_model_laws.specs.Apart.{KeepsApart}
-use Rattle.pl_model_laws.proofs.Claiming.{claims-allowed, provider-stays, was-made, where_found}
+use Rattle.pl_model_laws.proofs.Claiming.{claims-allowed, was-made}
 use Rattle.pl_model_laws.proofs.Freed.{free-recorded}
-use Rattle.pl_model_laws.proofs.Growing.{run_of, same_number}
-use Rattle.pl_model_laws.proofs.Leaving.{claimed-once, neither}
+use Rattle.pl_model_laws.proofs.Growing.{or_true, same_number}
+use Rattle.pl_model_laws.proofs.Leaving.{claimed-once}
 use Rattle.pl_model_laws.proofs.Once.{history_of}
-use Rattle.pl_model_laws.proofs.Recorded.{recording-held, recording-new}
-use Rattle.pl_model_laws.proofs.Removing.{Later, later-before, later-now, never-marked, never-removed}
+use Rattle.pl_model_laws.proofs.Pairs.{Each, Pairwise, pairs-all, pairs-mapped, pairs-turned}
+use Rattle.pl_model_laws.proofs.Recorded.{recorded-held, recording-held, recording-new}
+use Rattle.pl_model_laws.proofs.Removing.{Later, later-before, later-now, unrecorded-left, unrecorded-unmarked}
 use Rattle.pl_model_laws.proofs.Staying.{recorded-as, some_same}
 use Rattle.pl_model_laws.proofs.TakenOver.{AllDecided, AreRecorded, all-decided, first-turned, first_true, taker, turning_row}
 use Rattle.pl_model_laws.proofs.Turning.{other-turn, turned-of, turned_at, turned_by, turned_of, turning_parts}
@@ -34,50 +33,6 @@ alike_true : (a b : Bool) → beq a b ≡ true → b ≡ true → a ≡ true
 alike_true true b h is = refl
 alike_true false true h is = absurd (let e : false ≡ true = h in cc)
 alike_true false false h is = absurd (let e : false ≡ true = is in cc)
-
--- a row of the start that is neither gone nor taken over is left
-left_so : (below gone taken : Bool) → below ≡ true → gone ≡ false → taken ≡ false → (below && not gone && not taken) ≡ true
-left_so true false false here stays free = refl
-left_so true false true here stays free = absurd (let e : true ≡ false = free in cc)
-left_so true true taken here stays free = absurd (let e : true ≡ false = stays in cc)
-left_so false gone taken here stays free = absurd (let e : false ≡ true = here in cc)
-
--- ---- the claim of a goal that is not recorded yet and replaces nothing
-
-module _ (run : Fixed) (spelling : Spelling) (past : List Event) (legal : IsLegal run spelling past) (number row : ℕ) (one : Decided) (entry : Entry)
-    (decided : decided_goal (known_of run past) number ≡ Some one) (claims : is_row one.claim row ≡ true)
-    (deletes_none : is_delete_first one.decision ≡ false) (creates_none : is_create_first one.decision ≡ false)
-    (at : slice_get (rows_of run) row ≡ Some entry) (unrecorded : has_number (recorded_of past) number ≡ false) where
-  abbrev before : Known
-  before = known_of run past
-
-  -- no recorded goal claims the row
-  none_recorded : recorded_claimer before row ≡ None
-  none_recorded = by (claimer_of before.decided row) refl
-    where
-      by : (o : Option ℕ) → claimer_of before.decided row ≡ o
-          → option_and_then (λ (n : ℕ). only_if (is_recorded before n) (Some n)) o ≡ None
-      by None is = refl
-      by (Some n) is =
-          let found = where_found (λ (it : Decided). is_row it.claim row) before.decided n is in
-          let same : n ≡ number = claimed-once run past n number found.0 one row found.1 decided found.2 claims in
-          ap (λ (b : Bool). only_if b (Some n))
-          (ap (λ (k : ℕ). is_recorded before k) same ∙ recorded-as run past number ∙ unrecorded)
-
-  -- so the row is left
-  claim_left : is_left before row ≡ true
-  claim_left =
-      let inside : row < length (rows_of run) = slice_get_within (rows_of run) row entry at in
-      let below : nat_lt row (length (rows_of run)) ≡ true = grind (arith, nat_tests) in
-      left_so (nat_lt row (length (rows_of before.run))) (has_number (removed_of before.history) row) (is_taken_over before row)
-      (ap (λ (fixed : Fixed). nat_lt row (length (rows_of fixed))) (run_of run past) ∙ below)
-      (ap (λ (events : List Event). has_number (removed_of events) row) (history_of run past)
-      ∙ never-removed run spelling past number row one decided claims deletes_none creates_none legal)
-      (ap (λ (o : Option ℕ). some_passes (λ (n : ℕ). not (stands_beside before n)) o) none_recorded)
-
-  -- and not marked
-  claim_unmarked : is_marked before row ≡ false
-  claim_unmarked = never-marked run spelling past number row one decided claims deletes_none creates_none past (later-now run past)
 
 module _ (run : Fixed) (spelling : Spelling) (history : List Event) (real : is_preview run.mode ≡ false) (apart : KeepsApart (rows_of run))
     (legal : IsLegal run spelling history) where
@@ -91,36 +46,26 @@ module _ (run : Fixed) (spelling : Spelling) (history : List Event) (real : is_p
   are_recorded : (past : List Event) → Later run past known → AreRecorded known (recorded_of past)
   are_recorded past later n h = later.recordings n (recorded-as run past n ∙ h)
 
-  -- this row of a provider is claimed by this goal
-  module _ (row : ℕ) (entry : Entry) (at : slice_get (rows_of run) row ≡ Some entry)
-      (number : ℕ) (goal : Goal) (one : Decided) (stands : goal_at known number ≡ Some goal) (provider : is_provider_goal goal ≡ true)
-      (decided : decided_goal known number ≡ Some one) (claims : is_row one.claim row ≡ true) where
-    -- no goal that is recorded later claims a row with the goal's URN
+  -- no goal that is recorded later claims by an alias a row with the URN of a recorded goal
+  module _ (number : ℕ) (goal : Goal) (one : Decided) (stands : goal_at known number ≡ Some goal)
+      (decided : decided_goal known number ≡ Some one) where
     never_turned : (event : Event) (past : List Event) → Later run past known → IsLegal run spelling (event ∷ past)
         → has_number (recorded_of past) number ≡ true → (other : ℕ) → recorded_by past event.what ≡ Some other
         → is_recorded known other ≡ true → (turning : Turning) → turning_of known other ≡ Some turning → goal.urn ≡ turning.old → ⊥
     never_turned event past later legal_then recorded other records is_there turning is same =
         let turn = turning_parts known other turning is in
         let its = turning_row run history decided_all other turning is_there turn in
-        let made = was-made run history other its.0 its.2 in
-        let allowed = claims-allowed run history other its.0 its.1 made its.3 in
         let urn : goal.urn ≡ turn.row.urn = same ∙ turn.from in
-        let provides : is_provider_row allowed.entry ≡ true =
-        ap (λ (it : Entry). is_provider_row it) (some_same allowed.entry turn.row (sym allowed.at ∙ its.4))
-        ∙ ap (λ (text : List ℕ). is_of_provider text) (sym urn) ∙ provider in
-        let stays : (is_delete_first its.0.decision ≡ false) × (is_create_first its.0.decision ≡ false) =
-        neither (is_delete_first its.0.decision) (is_create_first its.0.decision)
-        (provider-stays run history other its.0 made
-        (alike_true (is_provider_goal made.goal) (is_provider_row allowed.entry) allowed.alike provides)) in
         let there = recording-held run spelling event past other legal_then records in
         let own : decided_goal (known_of run past) other ≡ Some its.0 =
         there.2.decided ∙ ap (λ (it : Decided). Some it) (some_same there.1 its.0 (sym (later.decisions other there.1 there.2.decided) ∙ its.2)) in
         let unrecorded : has_number (recorded_of past) other ≡ false =
         recording-new run spelling event.seat past event.what other legal_then.0 legal_then.1 records in
+        let missing : is_recorded (known_of run past) other ≡ false = recorded-as run past other ∙ unrecorded in
         let left : is_left (known_of run past) its.1 ≡ true =
-        claim_left run spelling past legal_then.0 other its.1 its.0 turn.row own its.3 stays.0 stays.1 its.4 unrecorded in
+        unrecorded-left run spelling past other its.1 its.0 own its.3 legal_then.0 missing in
         let unmarked : is_marked (known_of run past) its.1 ≡ false =
-        claim_unmarked run spelling past legal_then.0 other its.1 its.0 turn.row own its.3 stays.0 stays.1 its.4 unrecorded in
+        unrecorded-unmarked run spelling past other its.1 its.0 own its.3 legal_then.0 missing in
         let free = free-recorded run spelling real apart past number legal_then.0 recorded in
         let goal_same : free.goal ≡ goal = some_same free.goal goal (sym (later.goals number free.goal free.stands) ∙ stands) in
         let one_same : free.one ≡ one = some_same free.one one (sym (later.decisions number free.one free.decided) ∙ decided) in
@@ -139,6 +84,10 @@ module _ (run : Fixed) (spelling : Spelling) (history : List Event) (real : is_p
                 let e : true ≡ false = sym recorded ∙ ap (λ (k : ℕ). has_number (recorded_of past) k) one_goal ∙ unrecorded in
                 absurd (let f : true ≡ false = e in cc)
 
+  -- this row is claimed by this goal
+  module _ (row : ℕ) (entry : Entry) (at : slice_get (rows_of run) row ≡ Some entry)
+      (number : ℕ) (goal : Goal) (one : Decided) (stands : goal_at known number ≡ Some goal)
+      (decided : decided_goal known number ≡ Some one) (claims : is_row one.claim row ≡ true) where
     -- from its record on the URN is the goal's own
     stays_turned : (past : List Event) → Later run past known → IsLegal run spelling past → has_number (recorded_of past) number ≡ true
         → turned_of known (recorded_of past) entry.urn ≡ goal.urn
@@ -160,7 +109,8 @@ module _ (run : Fixed) (spelling : Spelling) (history : List Event) (real : is_p
         new other is true recorded h rest =
             ap (turned_at (turning_of known other)) (rest recorded)
             ∙ other-turn (turning_of known other) goal.urn
-            (never_turned event past (later-before run spelling event past known legal_then.1 later) legal_then recorded other is (new_recorded other is))
+            (never_turned number goal one stands decided event past (later-before run spelling event past known legal_then.1 later) legal_then
+            recorded other is (new_recorded other is))
         new other is false none h rest =
             first-turned run history decided_all apart row entry at number goal one stands decided claims other (recorded_of past)
             (are_recorded past (later-before run spelling event past known legal_then.1 later)) none
@@ -186,7 +136,7 @@ module _ (run : Fixed) (spelling : Spelling) (history : List Event) (real : is_p
       alike_true (is_provider_goal made.goal) (is_provider_row allowed.entry) allowed.alike
       (ap (λ (it : Entry). is_provider_row it) (some_same allowed.entry entry (sym allowed.at ∙ at)) ∙ provides) in
       let turned : turned_of known (recorded_of history) entry.urn ≡ made.goal.urn =
-      stays_turned row entry at own.number made.goal own.one made.stands provider own.decided own.claims history (later-now run history) legal
+      stays_turned row entry at own.number made.goal own.one made.stands own.decided own.claims history (later-now run history) legal
       (sym (recorded-as run history own.number) ∙ own.recorded) in (
         own.number,
         made.goal,
@@ -198,3 +148,52 @@ module _ (run : Fixed) (spelling : Spelling) (history : List Event) (real : is_p
         provider,
         turned-of known entry.urn ∙ ap (λ (events : List Event). turned_of known (recorded_of events) entry.urn) (history_of run history) ∙ turned,
       )
+
+  -- ---- no URN that one alias made is turned by another
+
+  -- the URN that one goal's turn made is not the one that another's turned
+  abbrev TurnsApart : ℕ → ℕ → Type 0
+  TurnsApart earlier later = (first second : Turning) → turning_of known earlier ≡ Some first → turning_of known later ≡ Some second
+      → first.new ≢ second.old
+
+  -- each goal's, of those that were recorded before
+  apart_from : (event : Event) (past : List Event) → Later run past known → IsLegal run spelling (event ∷ past) → (other : ℕ)
+      → recorded_by past event.what ≡ Some other → is_recorded known other ≡ true → (numbers : List ℕ)
+      → ((n : ℕ) → has_number numbers n ≡ true → has_number (recorded_of past) n ≡ true) → Each (λ n. TurnsApart n other) numbers
+  apart_from event past later legal_then other records is_there [] within = tt
+  apart_from event past later legal_then other records is_there (number ∷ numbers) within = (
+    λ first second is too same.
+        let recorded : has_number (recorded_of past) number ≡ true = within number (rw (same_number number) refl) in
+        let there = recorded-held run spelling history number legal (are_recorded past later number recorded) in
+        let turn = turning_parts known number first is in
+        let own : turn.goal ≡ there.0 = some_same turn.goal there.0 (sym turn.stands ∙ there.2.stands) in
+        never_turned number there.0 there.1 there.2.stands there.2.decided event past later legal_then recorded other records is_there second too
+        (ap (λ (goal : Goal). goal.urn) (sym own) ∙ sym turn.to ∙ same),
+    apart_from event past later legal_then other records is_there numbers (λ n has. within n (rw has (or_true (number == n)))),
+  )
+
+  turns_apart : (past : List Event) → Later run past known → IsLegal run spelling past
+      → Pairwise (λ later earlier. TurnsApart earlier later) (recorded_of past)
+  turns_apart [] later legal_then = tt
+  turns_apart (event ∷ past) later legal_then = by (recorded_by past event.what) refl (turns_apart past before legal_then.0)
+    where
+      before : Later run past known
+      before = later-before run spelling event past known legal_then.1 later
+
+      by : (o : Option ℕ) → recorded_by past event.what ≡ o → Pairwise (λ later earlier. TurnsApart earlier later) (recorded_of past)
+          → Pairwise (λ later earlier. TurnsApart earlier later) (cons_option o (recorded_of past))
+      by None is rest = rest
+      by (Some other) is rest =
+          let there : is_recorded known other ≡ true =
+          are_recorded (event ∷ past) later other
+          (ap (λ (o : Option ℕ). has_number (cons_option o (recorded_of past)) other) is
+          ∙ ap (λ (b : Bool). b || has_number (recorded_of past) other) (same_number other)) in
+          (apart_from event past before legal_then other is there (recorded_of past) (λ n has. has), rest)
+
+  pub turned-once : AllPairs (λ earlier later. earlier.new ≢ later.old) (turnings known)
+  turned-once =
+      pairs-all (λ earlier later. earlier.new ≢ later.old) (turnings known)
+      (pairs-mapped (turning_of known) (λ earlier later. earlier.new ≢ later.old) (reverse (recorded_of known.history))
+      (pairs-turned (λ later earlier. TurnsApart earlier later) TurnsApart (λ later earlier apart_so. apart_so) (recorded_of known.history)
+      (subst (λ (events : List Event). Pairwise (λ later earlier. TurnsApart earlier later) (recorded_of events)) (sym (history_of run history))
+      (turns_apart history (later-now run history) legal))))

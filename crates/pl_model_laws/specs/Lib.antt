@@ -1,4 +1,5 @@
 pub mod Laws
+pub mod Kept
 pub mod Apart
 pub mod Order
 pub mod Soundness
@@ -7,3 +8,5 @@ pub mod Quiet
 pub mod Anew
 pub mod Foreseen
 pub mod Closure
+pub mod Choosing
+pub mod Falling

@@ -33,7 +33,7 @@ DeletedAfterDependents = (run : Fixed) (spelling : Spelling) (history : List Eve
     → IsLegal run spelling history → refers_to (rows_of run) later earlier ≡ true
     → is_left (known_of run history) later ≡ true → was_begun history (op.Delete (subject.Row earlier)) ≡ false
 
--- no row is taken out while a later row that refers to it is left
+-- no row is deleted or dropped while a later row that refers to it is left
 abbrev pub GoneAfterDependents : Type 0
 GoneAfterDependents = (run : Fixed) (spelling : Spelling) (history : List Event) (later earlier : ℕ)
     → IsLegal run spelling history → refers_to (rows_of run) later earlier ≡ true

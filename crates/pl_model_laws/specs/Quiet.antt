@@ -1,13 +1,12 @@
 -- The law that nothing waits in a circle: where nothing is out, due or over the limit, everything is done.
 use Rattle.std.specs.Prelude.{◌≡◌, ◌<◌, ℕ, Bool, true, false, List, Some}
-use Rattle.pl_urn.specs.Grammar.{IsScope}
 use Rattle.pl_state.specs.Sound.{IsSound}
 use Rattle.pl_events.specs.declared.event.Event.{Event}
 use Rattle.pl_events.specs.declared.operation.Call.{Call}
 use Rattle.pl_events.specs.declared.operation.Call.TheVariants as call
 use Rattle.pl_events.specs.declared.reply.Reply.{Reply}
 use Rattle.pl_events.specs.declared.reply.Reply.TheVariants.{Checked, CheckFailed, Configured, Diffed, Made, MadePartly, Changed, ChangedPartly, Removed, Found, Gone, Result, Error}
-use Rattle.pl_model.specs.Run.{Fixed, Spelling, is_preview, is_refresh, rows_of}
+use Rattle.pl_model.specs.Run.{Fixed, HasNames, Spelling, is_preview, is_refresh, rows_of}
 use Rattle.pl_model.specs.Due.{IsQuiet}
 use Rattle.pl_model.specs.History.{known_of}
 use Rattle.pl_model.specs.Known.{Known, all_recorded, has_problem, host_ended}
@@ -55,7 +54,7 @@ pub record IsAllDone (known : Known) : Type 0 where
 -- provider may run, and the state at the start is sound
 abbrev pub QuietIsDone : Type 0
 QuietIsDone = (run : Fixed) (spelling : Spelling) (history : List Event)
-    → IsScope run.stack → IsScope run.project → is_preview run.mode ≡ false → is_refresh run.mode ≡ false
+    → HasNames run → is_preview run.mode ≡ false → is_refresh run.mode ≡ false
     → 0 < run.parallel → RepliesFit spelling → IsSound (rows_of run) → IsLegal run spelling history
     → host_ended (known_of run history) ≡ true → has_problem (known_of run history) ≡ false → IsQuiet (known_of run history)
     → IsAllDone (known_of run history)

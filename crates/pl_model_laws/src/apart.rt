@@ -1,6 +1,6 @@
-ghost use Rattle.pl_model_laws.specs.Apart.{GoalsApart, StatesApart};
+ghost use Rattle.pl_model_laws.specs.Apart.{GoalsApart, StatesApart, TurnedOnce};
 
-/// The law that no two goals have the same URN.
+/// The law that no two goals of a legal history have the same URN.
 pub fn goals_apart()
     ensures { GoalsApart }
 {}
@@ -8,4 +8,9 @@ pub fn goals_apart()
 /// The law that in the state of a legal history no two rows that are not to be deleted have the same URN.
 pub fn states_apart()
     ensures { StatesApart }
+{}
+
+/// The law that no URN that one alias made is turned by another.
+pub fn turned_once()
+    ensures { TurnedOnce }
 {}

@@ -15,7 +15,7 @@ pub fn deleted_after_dependents()
     ensures { DeletedAfterDependents }
 {}
 
-/// The law that a row is taken out only once no later row that refers to it is left.
+/// The law that a row is deleted or dropped only once no later row that refers to it is left.
 pub fn gone_after_dependents()
     ensures { GoneAfterDependents }
 {}

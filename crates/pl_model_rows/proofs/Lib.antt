@@ -1,1 +1,2 @@
 pub mod OnHistories
+pub mod Values

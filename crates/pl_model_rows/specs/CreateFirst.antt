@@ -1,8 +1,6 @@
 -- Two things, of which the second depends on the first. The first is replaced, the new one made before the old one
 -- is deleted; the second has not changed.
-use Rattle.std.specs.Prelude.{ℕ, pos, true, List, [], ◌∷◌, codes}
-use Rattle.pl_value.specs.declared.value.Value.{Value}
-use Rattle.pl_value.specs.declared.value.Value.TheVariants as value
+use Rattle.std.specs.Prelude.{true, List, [], ◌∷◌, codes}
 use Rattle.pl_state.specs.declared.entry.Entry.{Entry}
 use Rattle.pl_state.specs.declared.goal.Registration.{Registration}
 use Rattle.pl_state.specs.declared.pending.Pending.{Pending}
@@ -10,11 +8,7 @@ use Rattle.pl_events.specs.declared.event.Event.{Event}
 use Rattle.pl_events.specs.declared.reply.Reply.TheVariants as reply
 use Rattle.pl_model.specs.Run.{Fixed}
 use Rattle.pl_model.specs.declared.mode.Mode.TheVariants.{Up}
-use Rattle.pl_model_rows.specs.Pieces.{a_urn, begins, changed, checks_inputs, checks_provider, compares, configures, creates, creating, deletes, deleting, host_done, k_one, keeps, new_thing, no_change, one_field, posts, provider_entry, registers, replies, run_over, stack_entry, stack_told, thing, thing_told}
-
--- the fields of the first thing, a change of which asks for a new one
-abbrev pub fixed_at : ℕ → List (List ℕ × Value)
-fixed_at n = one_field (codes "fixed") (value.Whole (pos n))
+use Rattle.pl_model_rows.specs.Pieces.{a_urn, begins, changed, checks_inputs, checks_provider, compares, configures, creates, creating, deletes, deleting, fixed_at, host_done, k_one, keeps, new_thing, no_change, posts, provider_entry, registers, replies, run_over, stack_entry, stack_told, thing, thing_told}
 
 abbrev pub old_a : Entry
 old_a = thing (codes "a") (codes "a-1") (fixed_at 1)

@@ -7,4 +7,15 @@ pub mod CreateFirst
 pub mod Renamed
 pub mod Destroyed
 pub mod ReadAnew
-pub mod TurnedTwice
+pub mod AliasWaits
+pub mod GoesAlong
+pub mod RetainedDeleter
+pub mod Resumed
+pub mod DestroyedHalfway
+pub mod TakesChain
+pub mod ProtectedDependent
+pub mod SecretOutputs
+pub mod Previewed
+pub mod Imported
+pub mod OneTarget
+pub mod TwoLanes

@@ -1,5 +1,5 @@
 -- What the worked histories are made of: a stack, a provider and its things, and events in short words.
-use Rattle.std.specs.Prelude.{ℕ, true, false, pos, None, Some, List, [], ◌∷◌, ◌++◌, codes}
+use Rattle.std.specs.Prelude.{ℕ, true, false, pos, Option, None, Some, List, [], ◌∷◌, ◌++◌, codes}
 use Rattle.pl_value.specs.declared.value.Value.{Value}
 use Rattle.pl_value.specs.declared.value.Value.TheVariants as value
 use Rattle.pl_state.specs.Component.{bare_entry, bare_state, component_entry, plain_registration}
@@ -7,20 +7,20 @@ use Rattle.pl_state.specs.declared.entry.Entry.{Entry}
 use Rattle.pl_state.specs.declared.goal.Changes.TheVariants.{NoChange, SomeChange}
 use Rattle.pl_state.specs.declared.goal.Registration.{Registration}
 use Rattle.pl_state.specs.declared.pending.Pending.{Pending}
-use Rattle.pl_state.specs.declared.pending.PendingKind.TheVariants.{Creating, Deleting}
+use Rattle.pl_state.specs.declared.pending.PendingKind.TheVariants.{Creating, Updating, Deleting}
 use Rattle.pl_reference.specs.declared.reference.ProviderRef.{ProviderRef}
 use Rattle.pl_state.specs.declared.snapshot.Snapshot.{Snapshot}
 use Rattle.pl_events.specs.declared.event.Event.{Event}
 use Rattle.pl_events.specs.declared.event.HostEnd.TheVariants.{Success}
-use Rattle.pl_events.specs.declared.event.Request.TheVariants.{Outputs, Register}
+use Rattle.pl_events.specs.declared.event.Request.TheVariants.{Invoke, Outputs, Register}
 use Rattle.pl_events.specs.declared.event.What.TheVariants.{Told, HostGone, Begun, Answered, Kept, Dropped, Cleared, Lost, Posted}
 use Rattle.pl_events.specs.declared.operation.Op.{Op}
-use Rattle.pl_events.specs.declared.operation.Op.TheVariants.{CheckConfig, Configure, Check, Diff, Create, Delete, Read}
+use Rattle.pl_events.specs.declared.operation.Op.TheVariants as op
 use Rattle.pl_events.specs.declared.operation.Source.TheVariants as source
 use Rattle.pl_events.specs.declared.operation.Subject.TheVariants as subject
 use Rattle.pl_events.specs.declared.reply.Loss.TheVariants.{Ended}
 use Rattle.pl_events.specs.declared.reply.Reply.{Reply}
-use Rattle.pl_events.specs.declared.reply.Reply.TheVariants.{Diffed}
+use Rattle.pl_events.specs.declared.reply.Reply.TheVariants as reply
 use Rattle.pl_decide.specs.declared.limits.Limits.{Limits}
 use Rattle.pl_model.specs.Run.{Fixed}
 use Rattle.pl_model.specs.declared.mode.Mode.{Mode}
@@ -75,8 +75,15 @@ abbrev pub one_field : List ℕ → Value → List (List ℕ × Value)
 one_field key held = (key, held) ∷ []
 
 -- the fields of the things: a whole number under `k`
+abbrev pub k_at : ℕ → List (List ℕ × Value)
+k_at n = one_field (codes "k") (value.Whole (pos n))
+
 abbrev pub k_one : List (List ℕ × Value)
-k_one = one_field (codes "k") (value.Whole (pos 1))
+k_one = k_at 1
+
+-- fields a change of which asks for a new thing
+abbrev pub fixed_at : ℕ → List (List ℕ × Value)
+fixed_at n = one_field (codes "fixed") (value.Whole (pos n))
 
 -- a thing below the stack, before it is made
 abbrev pub new_thing : List ℕ → List (List ℕ × Value) → Entry
@@ -96,6 +103,9 @@ no_limits = record { only = None; plan = None }
 
 abbrev pub creating : Entry → Pending
 creating one = record { kind = Creating; entry = one }
+
+abbrev pub updating : Entry → Pending
+updating one = record { kind = Updating; entry = one }
 
 abbrev pub deleting : Entry → Pending
 deleting one = record { kind = Deleting; entry = one }
@@ -118,33 +128,43 @@ run_over mode rows waiting = record {
 -- ---- operations
 
 abbrev pub checks_provider : ℕ → Op
-checks_provider goal = CheckConfig (subject.Goal goal)
+checks_provider goal = op.CheckConfig (subject.Goal goal)
 
 abbrev pub configures : ℕ → Op
-configures goal = Configure (source.Goal goal)
+configures goal = op.Configure (source.Goal goal)
 
 -- a lane for the rows of a provider's row
 abbrev pub configures_row : ℕ → Op
-configures_row row = Configure (source.Row row)
+configures_row row = op.Configure (source.Row row)
 
 abbrev pub checks_inputs : ℕ → Op
-checks_inputs goal = Check (subject.Goal goal)
+checks_inputs goal = op.Check (subject.Goal goal)
 
 abbrev pub compares : ℕ → Op
-compares goal = Diff (subject.Goal goal)
+compares goal = op.Diff (subject.Goal goal)
 
 abbrev pub creates : ℕ → Op
-creates goal = Create (subject.Goal goal)
+creates goal = op.Create (subject.Goal goal)
+
+abbrev pub updates : ℕ → Op
+updates goal = op.Update (subject.Goal goal)
 
 abbrev pub deletes : ℕ → Op
-deletes row = Delete (subject.Row row)
+deletes row = op.Delete (subject.Row row)
 
 -- the reading of what a pending creation made
 abbrev pub reads_pending : ℕ → Op
-reads_pending at = Read (subject.Pending at)
+reads_pending at = op.Read (subject.Pending at)
 
 abbrev pub reads : ℕ → Op
-reads row = Read (subject.Row row)
+reads row = op.Read (subject.Row row)
+
+-- the reading of what a goal imports
+abbrev pub reads_goal : ℕ → Op
+reads_goal goal = op.Read (subject.Goal goal)
+
+abbrev pub invokes : ℕ → Op
+invokes n = op.Invoke n
 
 -- ---- events
 
@@ -154,11 +174,19 @@ registers n told = record { seat = 0; what = Told (Register n told) }
 abbrev pub tells_outputs : ℕ → List ℕ → List (List ℕ × Value) → Event
 tells_outputs n urn fields = record { seat = 0; what = Told (Outputs n urn fields) }
 
+-- an invoke without a version
+abbrev pub tells_invoke : ℕ → List ℕ → List (List ℕ × Value) → Option (List ℕ) → Event
+tells_invoke n token args provider = record { seat = 0; what = Told (Invoke n token args provider None) }
+
 abbrev pub host_done : Event
 host_done = record { seat = 0; what = HostGone Success }
 
 abbrev pub begins : ℕ → ℕ → Op → Event
 begins ticket lane about = record { seat = 0; what = Begun ticket lane about }
+
+-- the same event by the thread at another seat
+abbrev pub at_seat : ℕ → Event → Event
+at_seat seat event = record event { seat = seat }
 
 abbrev pub replies : ℕ → Reply → Event
 replies ticket reply = record { seat = 0; what = Answered ticket reply }
@@ -186,11 +214,15 @@ posts n = record { seat = 0; what = Posted n }
 -- ---- replies to a comparison
 
 abbrev pub no_change : Reply
-no_change = Diffed (record { changes = NoChange; replaces = []; delete_before_replace = false })
+no_change = reply.Diffed (record { changes = NoChange; replaces = []; delete_before_replace = false })
+
+-- a change that is made in place
+abbrev pub changed_in_place : Reply
+changed_in_place = reply.Diffed (record { changes = SomeChange; replaces = []; delete_before_replace = false })
 
 -- a change of this property, which asks for a new thing
 abbrev pub changed : List ℕ → Reply
-changed key = Diffed (record { changes = SomeChange; replaces = key ∷ []; delete_before_replace = false })
+changed key = reply.Diffed (record { changes = SomeChange; replaces = key ∷ []; delete_before_replace = false })
 
 -- ---- registrations
 
@@ -201,3 +233,19 @@ stack_told = plain_registration stack_type (codes "web-dev") None
 abbrev pub thing_told : List ℕ → List (List ℕ × Value) → Registration
 thing_told name fields =
     record (plain_registration thing_type name (Some stack_urn)) { custom = true; inputs = fields }
+
+-- ---- the first events of a history
+
+-- the stack is told, kept and answered; a thing is told, and its default provider is checked and configured
+abbrev pub until_configured : Registration → List Event
+until_configured told =
+    registers 1 stack_told ∷ keeps 0 ∷ posts 1 ∷ registers 2 told
+    ∷ begins 0 0 (checks_provider 1) ∷ replies 0 (reply.Checked []) ∷ begins 1 0 (configures 1) ∷ replies 1 reply.Configured ∷ []
+
+-- the provider is kept over its row
+abbrev pub opening : Registration → List Event
+opening told = until_configured told ++ keeps 1 ∷ []
+
+-- the provider has no row, and its id is made of a drawn number
+abbrev pub first_opening : Registration → List Event
+first_opening told = until_configured told ++ keeps_with 1 1 ∷ []

@@ -1,6 +1,6 @@
 //! A thing on which a second one depends is registered under another name, with its old one as an alias.
 
-ghost use Rattle.std.specs.Prelude.{◌≡◌, [], ◌∷◌, codes, false, None, Some, true};
+ghost use Rattle.std.specs.Prelude.{◌≡◌, [], ◌∷◌, codes, false, None, Some};
 ghost use Rattle.pl_events.specs.declared.event.Answer.{Answer};
 ghost use Rattle.pl_events.specs.declared.operation.Ask.{Ask};
 ghost use Rattle.pl_model.specs.Due.{has_open, over_limit, to_keep, to_post, to_send};

@@ -8,8 +8,8 @@ ghost use Rattle.pl_decide.specs.declared.problem.Problem.{Problem};
 ghost use Rattle.pl_model.specs.Due.{has_open, over_limit, to_keep, to_post, to_send};
 ghost use Rattle.pl_model.specs.Plan.{plan_by};
 ghost use Rattle.pl_model.specs.Rows.{is_doomed, left_rows};
-ghost use Rattle.pl_model_rows.specs.CreateFirst.{a_creating, a_deleting, b_entry, events, fixed_at, new_a, old_a, protected_run, replaced_a, run};
-ghost use Rattle.pl_model_rows.specs.Pieces.{a_urn, b_urn, checks_inputs, checks_provider, compares, configures, creates, deletes, k_one, provider_entry, provider_urn, stack_entry, stack_urn, state_with};
+ghost use Rattle.pl_model_rows.specs.CreateFirst.{a_creating, a_deleting, b_entry, events, new_a, old_a, protected_run, replaced_a, run};
+ghost use Rattle.pl_model_rows.specs.Pieces.{a_urn, b_urn, checks_inputs, checks_provider, compares, configures, creates, deletes, fixed_at, provider_entry, provider_urn, stack_entry, stack_urn, state_with};
 ghost use Rattle.pl_model_rows.specs.Prefixes.{answer_at, ask_at, choices_of, decision_at, due_at, due_on_at, known_at, known_end, marks_of, state_at};
 
 /// The states: what is recorded stands before what is left, and the replaced row is marked and stands where it stood.

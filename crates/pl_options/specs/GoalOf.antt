@@ -1,13 +1,13 @@
 -- The goal of a registration, or why it makes none.
-use Rattle.std.specs.Prelude.{ℕ, Bool, not, ◌&&◌, ◌==◌, if◌then◌else◌, is_none, is_some, is_ok, find, List, [], ◌∷◌, Option, None, Some, option_map, Result, Ok, Err}
-use Rattle.std.specs.List.{flat_map, starts_with}
+use Rattle.std.specs.Prelude.{ℕ, Bool, not, ◌&&◌, if◌then◌else◌, is_none, is_some, is_ok, find, List, [], ◌∷◌, Option, None, Some, option_map, Result, Ok, Err}
 use Rattle.std.specs.Option.{option_or}
 use Rattle.semver.specs.Parse.{version_parts}
-use Rattle.pl_urn.specs.Grammar.{child_fault, child_text, provider_prefix, urn_fault}
+use Rattle.pl_urn.specs.Grammar.{child_fault, child_text, is_provider_type, urn_fault}
 use Rattle.pl_urn.specs.declared.fault.UrnFault.{UrnFault}
 use Rattle.pl_urn.specs.declared.fault.UrnFault.TheVariants as urn
 use Rattle.pl_path.specs.Grammar.{is_path}
 use Rattle.pl_reference.specs.Reference.{is_reference}
+use Rattle.pl_state.specs.References.{property_urns}
 use Rattle.pl_state.specs.declared.fault.OptionFault.{OptionFault}
 use Rattle.pl_state.specs.declared.fault.OptionFault.TheVariants.{BadUrn, BadPath, BadVersion, BadReference, ProviderOfProvider}
 use Rattle.pl_state.specs.declared.goal.Goal.{Goal}
@@ -36,19 +36,16 @@ unless passes (Some text) = if passes text then None else Some text
 abbrev pub first_bad : (List ℕ → Bool) → List (List ℕ) → Option (List ℕ)
 first_bad passes texts = find (λ text. not (passes text)) texts
 
--- what the values of the properties depend on, the texts of each in order
-abbrev pub property_texts : Registration → List (List ℕ)
-property_texts told = flat_map (λ pair. pair.1) told.property_dependencies
-
 -- the first text that is to be a reference and is none: parent, provider, dependencies, property dependencies,
--- aliases; the provider is to be a provider reference, the others are to be URNs
+-- what the resource is deleted with, aliases; the provider is to be a provider reference, the others are to be URNs
 abbrev pub bad_reference : Registration → Option (List ℕ)
 bad_reference told =
     option_or (unless is_urn (given told.parent))
     (option_or (unless is_reference (given told.provider))
     (option_or (first_bad is_urn told.dependencies)
-    (option_or (first_bad is_urn (property_texts told))
-    (first_bad is_urn told.aliases))))
+    (option_or (first_bad is_urn (property_urns told.property_dependencies))
+    (option_or (unless is_urn (given told.deleted_with))
+    (first_bad is_urn told.aliases)))))
 
 -- the part that makes no URN: the type where that is bad, or else the name
 abbrev pub bad_part : Registration → Option UrnFault → Option (List ℕ)
@@ -67,10 +64,6 @@ bad_path told = first_bad is_path told.ignore_changes
 -- the version, if there is one and it is none
 abbrev pub bad_version : Registration → Option (List ℕ)
 bad_version told = unless is_version (given told.version)
-
--- whether a type is that of a provider
-abbrev pub is_provider_type : List ℕ → Bool
-is_provider_type kind = starts_with (λ a b. a == b) kind provider_prefix
 
 -- a provider is registered that names a provider
 abbrev pub provider_of_provider : Registration → Option OptionFault
@@ -102,6 +95,7 @@ plain_goal_of stack project told = record {
   ignore_changes = told.ignore_changes;
   delete_before_replace = told.delete_before_replace;
   retain_on_delete = told.retain_on_delete;
+  deleted_with = given told.deleted_with;
   additional_secret_outputs = told.additional_secret_outputs;
   import_id = given told.import_id;
   version = given told.version;

@@ -31,8 +31,10 @@ pub fn goal_vectors()
         ≡ Ok (plain_goal (codes "urn:pulumi:dev::web::toy:index:Thing::a") (codes "toy:index:Thing") None) }
     ensures below { goal_of example.stack example.project (record example.told { parent = Some example.other })
         ≡ Ok (plain_goal (codes "urn:pulumi:dev::web::t$toy:index:Thing::a") (codes "toy:index:Thing") (Some example.other)) }
+    ensures deleted_with { goal_of example.stack example.project (record example.told { deleted_with = Some example.other })
+        ≡ Ok (record (plain_goal (codes "urn:pulumi:dev::web::toy:index:Thing::a") (codes "toy:index:Thing") None) { deleted_with = Some example.other }) }
     ensures empty_texts { goal_of example.stack example.project
-        (record example.told { parent = Some []; provider = Some []; version = Some []; import_id = Some []; read_id = Some [] })
+        (record example.told { parent = Some []; provider = Some []; deleted_with = Some []; version = Some []; import_id = Some []; read_id = Some [] })
         ≡ goal_of example.stack example.project example.told }
     ensures no_fault { option_fault (record example.told {
       provider = Some example.reference;
@@ -64,6 +66,15 @@ pub fn order_vectors()
       aliases = codes "a" ∷ [];
     })
         ≡ Some (OptionFault.BadReference (codes "d")) }
+    ensures deleter_before_alias { option_fault (record example.told {
+      property_dependencies = (codes "k", example.other ∷ []) ∷ [];
+      deleted_with = Some (codes "w");
+      aliases = codes "a" ∷ [];
+    }) ≡ Some (OptionFault.BadReference (codes "w")) }
+    ensures deleter_after_property { option_fault (record example.told {
+      property_dependencies = (codes "k", codes "p" ∷ []) ∷ [];
+      deleted_with = Some (codes "w");
+    }) ≡ Some (OptionFault.BadReference (codes "p")) }
     ensures alias_last { option_fault (record example.told {
       property_dependencies = (codes "k", example.other ∷ codes "p" ∷ []) ∷ [];
       aliases = codes "a" ∷ [];

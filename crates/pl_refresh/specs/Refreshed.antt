@@ -5,7 +5,7 @@ use Rattle.std.specs.List.{list_any}
 use Rattle.pl_value.specs.Secrets.{marked}
 use Rattle.pl_value.specs.declared.value.Value.{Value}
 use Rattle.pl_state.specs.Chain.{some_passes}
-use Rattle.pl_state.specs.Sound.{has_urn, is_provider}
+use Rattle.pl_state.specs.References.{has_urn, is_provider}
 use Rattle.pl_state.specs.declared.entry.Entry.{Entry}
 use Rattle.pl_reference.specs.declared.reference.ProviderRef.{ProviderRef}
 use Rattle.pl_refresh.specs.declared.row_now.RowNow.{RowNow}
@@ -97,6 +97,7 @@ pruned_row base earlier left = record left.row {
   provider = provider_left earlier left.row.provider;
   dependencies = urns_left earlier left.row.dependencies;
   property_dependencies = keyed_left earlier left.row.property_dependencies;
+  deleted_with = if_there (is_there earlier) left.row.deleted_with;
 }
 
 -- the entries without such references, behind those that stand already

@@ -59,6 +59,10 @@ c_row = thing_row (codes "c") (codes "b")
 abbrev pub base_rows : List Entry
 base_rows = stack_row ∷ provider_row ∷ a_row ∷ b_row ∷ c_row ∷ []
 
+-- a thing below the stack that is deleted with the first one
+abbrev pub d_row : Entry
+d_row = record (thing_row (codes "d") (codes "S")) { deleted_with = Some (codes "a") }
+
 -- a thing of the same URN that is imported, below one that is gone
 abbrev pub imported_a_row : Entry
 imported_a_row = record (thing_row (codes "a") (codes "b")) { id = Some (codes "y") }

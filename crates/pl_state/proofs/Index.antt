@@ -14,10 +14,11 @@ use Rattle.std.specs.Ordering.{is_eq, nat_cmp, ordering_then}
 use Rattle.std.specs.Str.{bytes_eq}
 use Rattle.pl_state.specs.declared.entry.Entry.{Entry}
 use Rattle.pl_state.specs.declared.fault.Missing.{Missing}
-use Rattle.pl_state.specs.declared.fault.Missing.TheVariants.{Twice, Parent, Provider, Dependency}
+use Rattle.pl_state.specs.declared.fault.Missing.TheVariants.{Twice, Parent, Provider, Dependency, DeletedWith}
 use Rattle.pl_state.specs.declared.seen.Seen.{Seen}
 use Rattle.pl_state.specs.Seen.{gives, has_pair, has_text, HasOneMore}
-use Rattle.pl_state.specs.Sound.{fault_at, first_unmet, has_urn, is_met, is_provider, keeps_urn, optional_wants, own_wants, property_urns, wants}
+use Rattle.pl_state.specs.References.{has_urn, is_provider, keeps_urn, optional_refs, property_urns}
+use Rattle.pl_state.specs.Sound.{fault_at, first_unmet, is_met, own_wants, wants}
 use Rattle.pl_state.proofs.Soundness.{fault_at-row}
 
 abbrev text_cmp : Bor (List ℕ) → Bor (List ℕ) → Ordering
@@ -114,18 +115,20 @@ lacking_of-found seen pairs i pair missing inside is before here =
     ∙ alone)
 
 -- what a row misses first, kind by kind
-pub first_unmet-parts : (seen : Seen) (row : Entry) → first_unmet (gives seen) row ≡ option_or (find (lacks seen) (own_wants row)) (option_or (find (lacks seen) (optional_wants Parent row.parent)) (option_or (find (lacks seen) (optional_wants Provider row.provider)) (option_or (find (lacks seen) (map Dependency row.dependencies)) (find (lacks seen) (map Dependency (property_urns row))))))
+pub first_unmet-parts : (seen : Seen) (row : Entry) → first_unmet (gives seen) row ≡ option_or (find (lacks seen) (own_wants row)) (option_or (find (lacks seen) (optional_refs Parent row.parent)) (option_or (find (lacks seen) (optional_refs Provider row.provider)) (option_or (find (lacks seen) (map Dependency row.dependencies)) (option_or (find (lacks seen) (map Dependency (property_urns row.property_dependencies))) (find (lacks seen) (optional_refs DeletedWith row.deleted_with))))))
 unfolding first_unmet
 first_unmet-parts seen row =
     let own : List Missing = own_wants row in
-    let parent : List Missing = optional_wants Parent row.parent in
-    let provider : List Missing = optional_wants Provider row.provider in
+    let parent : List Missing = optional_refs Parent row.parent in
+    let provider : List Missing = optional_refs Provider row.provider in
     let urns : List Missing = map Dependency row.dependencies in
-    let properties : List Missing = map Dependency (property_urns row) in
-    find-append (lacks seen) own (parent ++ (provider ++ (urns ++ properties)))
-    ∙ ap (λ (o : Option Missing). option_or (find (lacks seen) own) o) (find-append (lacks seen) parent (provider ++ (urns ++ properties))
-    ∙ ap (λ (o : Option Missing). option_or (find (lacks seen) parent) o) (find-append (lacks seen) provider (urns ++ properties)
-    ∙ ap (λ (o : Option Missing). option_or (find (lacks seen) provider) o) (find-append (lacks seen) urns properties)))
+    let properties : List Missing = map Dependency (property_urns row.property_dependencies) in
+    let deleter : List Missing = optional_refs DeletedWith row.deleted_with in
+    find-append (lacks seen) own (parent ++ (provider ++ (urns ++ (properties ++ deleter))))
+    ∙ ap (λ (o : Option Missing). option_or (find (lacks seen) own) o) (find-append (lacks seen) parent (provider ++ (urns ++ (properties ++ deleter)))
+    ∙ ap (λ (o : Option Missing). option_or (find (lacks seen) parent) o) (find-append (lacks seen) provider (urns ++ (properties ++ deleter))
+    ∙ ap (λ (o : Option Missing). option_or (find (lacks seen) provider) o) (find-append (lacks seen) urns (properties ++ deleter)
+    ∙ ap (λ (o : Option Missing). option_or (find (lacks seen) urns) o) (find-append (lacks seen) properties deleter))))
 
 option_or-taken : (a rest : Option Missing) (missing : Missing) → Some missing ≡ a → Some missing ≡ option_or a rest
 option_or-taken a rest missing h = ap (λ (o : Option Missing). option_or o rest) h
@@ -137,16 +140,22 @@ abbrev pub own_lack : Seen → Entry → Option Missing
 own_lack seen row = find (lacks seen) (own_wants row)
 
 abbrev pub parent_lack : Seen → Entry → Option Missing
-parent_lack seen row = find (lacks seen) (optional_wants Parent row.parent)
+parent_lack seen row = find (lacks seen) (optional_refs Parent row.parent)
 
 abbrev pub provider_lack : Seen → Entry → Option Missing
-provider_lack seen row = find (lacks seen) (optional_wants Provider row.provider)
+provider_lack seen row = find (lacks seen) (optional_refs Provider row.provider)
 
 abbrev pub property_lack : Seen → Entry → Option Missing
-property_lack seen row = lacking_in seen (property_urns row)
+property_lack seen row = lacking_in seen (property_urns row.property_dependencies)
+
+abbrev pub deleter_lack : Seen → Entry → Option Missing
+deleter_lack seen row = find (lacks seen) (optional_refs DeletedWith row.deleted_with)
+
+abbrev after_dependencies : Seen → Entry → Option Missing
+after_dependencies seen row = option_or (property_lack seen row) (deleter_lack seen row)
 
 abbrev after_provider : Seen → Entry → Option Missing
-after_provider seen row = option_or (lacking_in seen row.dependencies) (property_lack seen row)
+after_provider seen row = option_or (lacking_in seen row.dependencies) (after_dependencies seen row)
 
 abbrev after_parent : Seen → Entry → Option Missing
 after_parent seen row = option_or (provider_lack seen row) (after_provider seen row)
@@ -176,15 +185,25 @@ dependency_first seen row missing own parent provider dependency =
     option_or-passed (own_lack seen row) (after_own seen row) (Some missing) own
     (option_or-passed (parent_lack seen row) (after_parent seen row) (Some missing) parent
     (option_or-passed (provider_lack seen row) (after_provider seen row) (Some missing) provider
-    (option_or-taken (lacking_in seen row.dependencies) (property_lack seen row) missing dependency)))
+    (option_or-taken (lacking_in seen row.dependencies) (after_dependencies seen row) missing dependency)))
     ∙ sym (first_unmet-parts seen row)
 
-pub property_first : (seen : Seen) (row : Entry) (missing : Option Missing) → None ≡ own_lack seen row → None ≡ parent_lack seen row → None ≡ provider_lack seen row → None ≡ lacking_in seen row.dependencies → missing ≡ property_lack seen row → missing ≡ first_unmet (gives seen) row
+pub property_first : (seen : Seen) (row : Entry) (missing : Missing) → None ≡ own_lack seen row → None ≡ parent_lack seen row → None ≡ provider_lack seen row → None ≡ lacking_in seen row.dependencies → Some missing ≡ property_lack seen row → Some missing ≡ first_unmet (gives seen) row
 property_first seen row missing own parent provider dependency property =
+    option_or-passed (own_lack seen row) (after_own seen row) (Some missing) own
+    (option_or-passed (parent_lack seen row) (after_parent seen row) (Some missing) parent
+    (option_or-passed (provider_lack seen row) (after_provider seen row) (Some missing) provider
+    (option_or-passed (lacking_in seen row.dependencies) (after_dependencies seen row) (Some missing) dependency
+    (option_or-taken (property_lack seen row) (deleter_lack seen row) missing property))))
+    ∙ sym (first_unmet-parts seen row)
+
+pub deleter_first : (seen : Seen) (row : Entry) (missing : Option Missing) → None ≡ own_lack seen row → None ≡ parent_lack seen row → None ≡ provider_lack seen row → None ≡ lacking_in seen row.dependencies → None ≡ property_lack seen row → missing ≡ deleter_lack seen row → missing ≡ first_unmet (gives seen) row
+deleter_first seen row missing own parent provider dependency property deleter =
     option_or-passed (own_lack seen row) (after_own seen row) missing own
     (option_or-passed (parent_lack seen row) (after_parent seen row) missing parent
     (option_or-passed (provider_lack seen row) (after_provider seen row) missing provider
-    (option_or-passed (lacking_in seen row.dependencies) (property_lack seen row) missing dependency property)))
+    (option_or-passed (lacking_in seen row.dependencies) (after_dependencies seen row) missing dependency
+    (option_or-passed (property_lack seen row) (deleter_lack seen row) missing property deleter))))
     ∙ sym (first_unmet-parts seen row)
 
 pub IfOk_along : {X E : Type 0} (r : Result X E) (P Q : X → Type 0) → ((x : X) → P x → Q x) → IfOk r P → IfOk r Q
@@ -221,6 +240,9 @@ gives-more old new rows at row h inside is same (Provider reference) =
     ∙ one_more (is_provider reference) rows at row inside is
 gives-more old new rows at row h inside is same (Dependency urn) =
     h.urns urn ∙ or_step (has_urn urn row) (has_text old.urns urn) (list_any (has_urn urn) (take at rows)) (same (Dependency urn))
+    ∙ one_more (has_urn urn) rows at row inside is
+gives-more old new rows at row h inside is same (DeletedWith urn) =
+    h.urns urn ∙ or_step (has_urn urn row) (has_text old.urns urn) (list_any (has_urn urn) (take at rows)) (same (DeletedWith urn))
     ∙ one_more (has_urn urn) rows at row inside is
 
 find-same : (met other : Missing → Bool) (list : List Missing) → ((want : Missing) → met want ≡ other want) → find (λ want. not (met want)) list ≡ find (λ want. not (other want)) list

@@ -7,8 +7,9 @@ use Rattle.std.specs.List.{find, flat_map, list_all, list_any, slice_get}
 use Rattle.std.specs.Option.{option_and_then}
 use Rattle.pl_state.specs.declared.entry.Entry.{Entry}
 use Rattle.pl_state.specs.declared.fault.Missing.{Missing}
-use Rattle.pl_state.specs.declared.fault.Missing.TheVariants.{Parent, Provider, Dependency}
-use Rattle.pl_state.specs.Sound.{fault_at, finds_all, first_unmet, has_urn, is_met, IsFirstFaulty, IsSound, optional_wants, own_wants, property_urns, wants}
+use Rattle.pl_state.specs.declared.fault.Missing.TheVariants.{Parent, Provider, Dependency, DeletedWith}
+use Rattle.pl_state.specs.References.{has_urn, optional_refs, property_urns}
+use Rattle.pl_state.specs.Sound.{fault_at, finds_all, first_unmet, is_met, IsFirstFaulty, IsSound, own_wants, wants}
 
 find_step : {X : Type 0} (b r : Bool) (x : X) (o : Option X) → r ≡ is_none o → (b && r) ≡ is_none (cond (not b) (Some x) o)
 find_step true r x o h = h
@@ -24,37 +25,50 @@ pub list_all-flat_map : {X Y : Type 0} (p : Y → Bool) (f : X → List Y) (xs :
 list_all-flat_map p f [] = refl
 list_all-flat_map p f (x ∷ xs) = list_all-append p (f x) (flat_map f xs) ∙ ap (λ (b : Bool). list_all p (f x) && b) (list_all-flat_map p f xs)
 
-regroup : (a b c d e : Bool) → (a && (b && (c && (d && e)))) ≡ (a && b && c && d && e)
-regroup true true true d e = refl
-regroup true true false d e = refl
-regroup true false c d e = refl
-regroup false b c d e = refl
+regroup : (a b c d e f : Bool) → (a && (b && (c && (d && (e && f))))) ≡ (a && b && c && d && e && f)
+regroup true true true true e f = refl
+regroup true true true false e f = refl
+regroup true true false d e f = refl
+regroup true false c d e f = refl
+regroup false b c d e f = refl
+
+-- whether each want of a row is met, kind by kind
+abbrev pub finds_kinds : List Entry → Entry → Bool
+finds_kinds before row =
+    list_all (is_met before) (own_wants row)
+    && list_all (is_met before) (optional_refs Parent row.parent)
+    && list_all (is_met before) (optional_refs Provider row.provider)
+    && list_all (λ urn. list_any (has_urn urn) before) row.dependencies
+    && list_all (λ pair. list_all (λ urn. list_any (has_urn urn) before) pair.1) row.property_dependencies
+    && list_all (is_met before) (optional_refs DeletedWith row.deleted_with)
 
 -- the wants of a row are met where those of each kind are
-list_all-wants : (before : List Entry) (row : Entry) → list_all (is_met before) (wants row) ≡ finds_all before row
-list_all-wants before row =
+pub finds_all-kinds : (before : List Entry) (row : Entry) → finds_all before row ≡ finds_kinds before row
+finds_all-kinds before row =
     let met : Missing → Bool = is_met before in
     let own : List Missing = own_wants row in
-    let parent : List Missing = optional_wants Parent row.parent in
-    let provider : List Missing = optional_wants Provider row.provider in
+    let parent : List Missing = optional_refs Parent row.parent in
+    let provider : List Missing = optional_refs Provider row.provider in
     let urns : List Missing = map Dependency row.dependencies in
-    let properties : List Missing = map Dependency (property_urns row) in
-    let of_urns : list_all met urns ≡ list_all (λ urn. list_any (has_urn urn) before) row.dependencies = list_all-map met Dependency row.dependencies in
-    let of_properties : list_all met properties ≡ list_all (λ pair. list_all (λ urn. list_any (has_urn urn) before) pair.1) row.property_dependencies =
-    list_all-map met Dependency (property_urns row) ∙ list_all-flat_map (λ urn. list_any (has_urn urn) before) (λ pair. pair.1) row.property_dependencies in
-    list_all-append met own (parent ++ (provider ++ (urns ++ properties)))
-    ∙ ap (λ (b : Bool). list_all met own && b) (list_all-append met parent (provider ++ (urns ++ properties))
-    ∙ ap (λ (b : Bool). list_all met parent && b) (list_all-append met provider (urns ++ properties)
-    ∙ ap (λ (b : Bool). list_all met provider && b) (list_all-append met urns properties
-    ∙ ap (λ (b : Bool). b && list_all met properties) of_urns
-    ∙ ap (λ (b : Bool). list_all (λ urn. list_any (has_urn urn) before) row.dependencies && b) of_properties)))
-    ∙ regroup (list_all met own) (list_all met parent) (list_all met provider)
-    (list_all (λ urn. list_any (has_urn urn) before) row.dependencies)
-    (list_all (λ pair. list_all (λ urn. list_any (has_urn urn) before) pair.1) row.property_dependencies)
+    let properties : List Missing = map Dependency (property_urns row.property_dependencies) in
+    let deleter : List Missing = optional_refs DeletedWith row.deleted_with in
+    let all_urns : Bool = list_all (λ urn. list_any (has_urn urn) before) row.dependencies in
+    let all_properties : Bool = list_all (λ pair. list_all (λ urn. list_any (has_urn urn) before) pair.1) row.property_dependencies in
+    let of_urns : list_all met urns ≡ all_urns = list_all-map met Dependency row.dependencies in
+    let of_properties : list_all met properties ≡ all_properties =
+    list_all-map met Dependency (property_urns row.property_dependencies) ∙ list_all-flat_map (λ urn. list_any (has_urn urn) before) (λ pair. pair.1) row.property_dependencies in
+    list_all-append met own (parent ++ (provider ++ (urns ++ (properties ++ deleter))))
+    ∙ ap (λ (b : Bool). list_all met own && b) (list_all-append met parent (provider ++ (urns ++ (properties ++ deleter)))
+    ∙ ap (λ (b : Bool). list_all met parent && b) (list_all-append met provider (urns ++ (properties ++ deleter))
+    ∙ ap (λ (b : Bool). list_all met provider && b) (list_all-append met urns (properties ++ deleter)
+    ∙ ap (λ (b : Bool). b && list_all met (properties ++ deleter)) of_urns
+    ∙ ap (λ (b : Bool). all_urns && b) (list_all-append met properties deleter
+    ∙ ap (λ (b : Bool). b && list_all met deleter) of_properties))))
+    ∙ regroup (list_all met own) (list_all met parent) (list_all met provider) all_urns all_properties (list_all met deleter)
 
 is_none-first_unmet : (before : List Entry) (row : Entry) → is_none (first_unmet (is_met before) row) ≡ finds_all before row
 unfolding first_unmet
-is_none-first_unmet before row = sym (list_all-find (is_met before) (wants row)) ∙ list_all-wants before row
+is_none-first_unmet before row = sym (list_all-find (is_met before) (wants row))
 
 none_from_test : {X : Type 0} (o : Option X) → is_none o ≡ true → o ≡ None
 none_from_test None h = refl

@@ -3,20 +3,12 @@ use Rattle.std.specs.Prelude.{ℕ, zero, suc, Bool, false, ◌&&◌, ◌||◌, i
 use Rattle.std.specs.List.{list_any}
 use Rattle.pl_state.specs.declared.entry.Entry.{Entry}
 use Rattle.pl_reference.specs.declared.reference.ProviderRef.{ProviderRef}
-use Rattle.pl_state.specs.Sound.{has_urn, is_provider}
+use Rattle.pl_state.specs.References.{has_urn, is_provider, names_row}
 
 -- whether something is there and passes the test
 abbrev pub some_passes : {X : Type 0} → (X → Bool) → Option X → Bool
 some_passes test None = false
 some_passes test (Some x) = test x
-
--- whether one of the first row's references is met by the second, wherever the two stand
-abbrev pub names_row : Entry → Entry → Bool
-names_row row other =
-    some_passes (λ urn. has_urn urn other) row.parent
-    || some_passes (λ reference. is_provider reference other) row.provider
-    || list_any (λ urn. has_urn urn other) row.dependencies
-    || list_any (λ pair. list_any (λ urn. has_urn urn other) pair.1) row.property_dependencies
 
 -- whether the row at the first place refers to the one at the second, which has to stand before it
 abbrev pub refers_to : List Entry → ℕ → ℕ → Bool
@@ -63,3 +55,12 @@ last_provider reference rows = option_and_then (λ named. last_place (is_provide
 -- the place of the provider of the row at a place: the last row before it that its reference names
 abbrev pub provider_row_of : List Entry → ℕ → Option ℕ
 provider_row_of rows at = option_and_then (λ row. last_provider row.provider (take at rows)) (slice_get rows at)
+
+-- the place of the last row that has a URN, if there is a URN
+abbrev pub last_of_urn : Option (List ℕ) → List Entry → Option ℕ
+last_of_urn urn rows = option_and_then (λ named. last_place (has_urn named) rows) urn
+
+-- the place of the row whose deletion takes along the one at a place: the last row before it with the URN that it
+-- names
+abbrev pub deleter_row_of : List Entry → ℕ → Option ℕ
+deleter_row_of rows at = option_and_then (λ row. last_of_urn row.deleted_with (take at rows)) (slice_get rows at)

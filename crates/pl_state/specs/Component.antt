@@ -30,6 +30,8 @@ bare_entry urn custom kind parent = record {
   aliases = [];
   import_id = None;
   retain_on_delete = false;
+  deleted_with = None;
+  pending_replacement = false;
   rest = no_fields;
 }
 
@@ -61,6 +63,7 @@ plain_registration kind name parent = record {
   ignore_changes = [];
   delete_before_replace = None;
   retain_on_delete = false;
+  deleted_with = None;
   additional_secret_outputs = [];
   import_id = None;
   version = None;
@@ -83,6 +86,7 @@ plain_goal urn kind parent = record {
   ignore_changes = [];
   delete_before_replace = None;
   retain_on_delete = false;
+  deleted_with = None;
   additional_secret_outputs = [];
   import_id = None;
   version = None;
@@ -102,7 +106,7 @@ has_no_flags told =
 -- whether the texts that name one thing are left out
 abbrev pub has_no_names : Registration → Bool
 has_no_names told =
-    is_none told.provider && is_none told.import_id && is_none told.version && is_none told.read_id
+    is_none told.provider && is_none told.deleted_with && is_none told.import_id && is_none told.version && is_none told.read_id
 
 -- whether the lists of options are empty
 abbrev pub has_no_lists : Registration → Bool

@@ -2,13 +2,13 @@
 use Rattle.std.specs.Prelude.{ℕ, Bool, not, ◌&&◌, ◌||◌, ◌==◌, if◌then◌else◌, is_some, Option, None, Some, List, codes}
 use Rattle.std.specs.List.{starts_with}
 use Rattle.std.specs.Str.{bytes_eq}
-use Rattle.pl_urn.specs.Grammar.{own_type_of, name_of, provider_prefix}
+use Rattle.pl_urn.specs.Grammar.{is_provider_type, own_type_of, name_of}
 use Rattle.pl_state.specs.declared.entry.Entry.{Entry}
 use Rattle.pl_state.specs.declared.goal.Goal.{Goal}
 
 -- whether a URN is that of a provider: by its own type, whatever else is said of it
 abbrev pub is_of_provider : List ℕ → Bool
-is_of_provider urn = starts_with (λ a b. a == b) (own_type_of urn) provider_prefix
+is_of_provider urn = is_provider_type (own_type_of urn)
 
 -- whether a name is that of a default provider
 abbrev pub is_default_name : List ℕ → Bool
@@ -50,7 +50,11 @@ is_reading_goal goal = is_provided goal && is_some goal.read_id
 abbrev pub is_importing_goal : Goal → Bool
 is_importing_goal goal = is_provided goal && is_some goal.import_id
 
--- a claim, where its thing is not one that is only read
+-- whether a row stands for a managed thing: one that is not only read, and is not deleted to be made anew
+abbrev pub is_managed : Entry → Bool
+is_managed row = not (row.external || row.pending_replacement)
+
+-- a claim, where its thing is managed
 abbrev pub kin_of : Option Entry → Option Entry
 kin_of None = None
-kin_of (Some claim) = if claim.external then None else Some claim
+kin_of (Some claim) = if is_managed claim then Some claim else None

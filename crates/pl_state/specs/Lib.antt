@@ -1,5 +1,6 @@
 pub mod Chain
 pub mod Component
 pub mod Kinds
+pub mod References
 pub mod Seen
 pub mod Sound

@@ -7,10 +7,10 @@ use Rattle.std.specs.List.{list_any}
 use Rattle.std.specs.Ordering.{is_eq, nat_cmp, ordering_then}
 use Rattle.pl_state.specs.declared.entry.Entry.{Entry}
 use Rattle.pl_state.specs.declared.fault.Missing.{Missing}
-use Rattle.pl_state.specs.declared.fault.Missing.TheVariants.{Twice, Parent, Provider, Dependency}
+use Rattle.pl_state.specs.declared.fault.Missing.TheVariants.{Twice, Parent, Provider, Dependency, DeletedWith}
 use Rattle.pl_reference.specs.declared.reference.ProviderRef.{ProviderRef}
 use Rattle.pl_state.specs.declared.seen.Seen.{Seen}
-use Rattle.pl_state.specs.Sound.{has_urn, is_provider, keeps_urn}
+use Rattle.pl_state.specs.References.{has_urn, is_provider, keeps_urn}
 
 -- whether a set has a text
 abbrev pub has_text : BTreeSet (Bor (List ℕ)) → List ℕ → Bool
@@ -27,6 +27,7 @@ gives seen (Twice urn) = not (has_text seen.kept urn)
 gives seen (Parent urn) = has_text seen.urns urn
 gives seen (Provider reference) = has_pair seen.things reference.urn reference.id
 gives seen (Dependency urn) = has_text seen.urns urn
+gives seen (DeletedWith urn) = has_text seen.urns urn
 
 -- an index has one row more than it had
 pub record HasOneMore (old new : Seen) (row : Entry) : Type 0 where

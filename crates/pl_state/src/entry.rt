@@ -34,6 +34,10 @@ pub struct Entry {
     pub aliases: Urns,
     pub import_id: Option<Text>,
     pub retain_on_delete: bool,
+    /// The resource whose deletion takes this one along.
+    pub deleted_with: Option<Urn>,
+    /// Whether the real thing was deleted to be made anew, and is not made yet.
+    pub pending_replacement: bool,
     /// The compact text of a JSON object with the fields that are kept unread.
     pub rest: Text,
 }
@@ -68,6 +72,8 @@ impl Entry {
             aliases: Urns::new(alloc),
             import_id: None,
             retain_on_delete: false,
+            deleted_with: None,
+            pending_replacement: false,
             rest,
         })
     }
@@ -94,6 +100,8 @@ impl Entry {
             aliases: self.aliases.copy()?,
             import_id: copy_text(&self.import_id)?,
             retain_on_delete: self.retain_on_delete,
+            deleted_with: copy_urn(&self.deleted_with)?,
+            pending_replacement: self.pending_replacement,
             rest: self.rest.copy()?,
         })
     }

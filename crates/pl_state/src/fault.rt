@@ -13,6 +13,7 @@ pub enum Missing {
     Parent(Urn),
     Provider(ProviderRef),
     Dependency(Urn),
+    DeletedWith(Urn),
 }
 
 impl Missing {
@@ -24,6 +25,7 @@ impl Missing {
             Missing::Parent(urn) => Missing::Parent(urn.copy()?),
             Missing::Provider(reference) => Missing::Provider(reference.copy()?),
             Missing::Dependency(urn) => Missing::Dependency(urn.copy()?),
+            Missing::DeletedWith(urn) => Missing::DeletedWith(urn.copy()?),
         })
     }
 }
@@ -76,7 +78,7 @@ pub enum OptionFault {
     BadPath(Text),
     #[error("no version")]
     BadVersion(Text),
-    /// A parent, a provider, a dependency or an alias that is no reference.
+    /// A parent, a provider, a dependency, a resource that is deleted with, or an alias that is no reference.
     #[error("no reference")]
     BadReference(Text),
     #[error("a provider of a provider")]

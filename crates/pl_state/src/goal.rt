@@ -30,6 +30,8 @@ pub struct Registration {
     pub ignore_changes: Texts,
     pub delete_before_replace: Option<bool>,
     pub retain_on_delete: bool,
+    /// The URN, as it was sent, of the resource whose deletion takes this one along.
+    pub deleted_with: Option<Text>,
     pub additional_secret_outputs: Texts,
     /// The id of a thing that is there already and is to be taken over.
     pub import_id: Option<Text>,
@@ -58,6 +60,7 @@ impl Registration {
             ignore_changes: Texts::new(alloc),
             delete_before_replace: None,
             retain_on_delete: false,
+            deleted_with: None,
             additional_secret_outputs: Texts::new(alloc),
             import_id: None,
             version: None,
@@ -85,6 +88,7 @@ impl Registration {
         ensures { result ≡ has_no_names self.now }
     {
         self.provider.is_none()
+            && self.deleted_with.is_none()
             && self.import_id.is_none()
             && self.version.is_none()
             && self.read_id.is_none()
@@ -118,6 +122,7 @@ impl Registration {
             ignore_changes: self.ignore_changes.copy()?,
             delete_before_replace: self.delete_before_replace,
             retain_on_delete: self.retain_on_delete,
+            deleted_with: copy_text(&self.deleted_with)?,
             additional_secret_outputs: self.additional_secret_outputs.copy()?,
             import_id: copy_text(&self.import_id)?,
             version: copy_text(&self.version)?,
@@ -145,6 +150,8 @@ pub struct Goal {
     pub ignore_changes: Texts,
     pub delete_before_replace: Option<bool>,
     pub retain_on_delete: bool,
+    /// The resource whose deletion takes this one along.
+    pub deleted_with: Option<Urn>,
     pub additional_secret_outputs: Texts,
     pub import_id: Option<Text>,
     pub version: Option<Text>,
@@ -169,6 +176,7 @@ impl Goal {
             ignore_changes: self.ignore_changes.copy()?,
             delete_before_replace: self.delete_before_replace,
             retain_on_delete: self.retain_on_delete,
+            deleted_with: copy_urn(&self.deleted_with)?,
             additional_secret_outputs: self.additional_secret_outputs.copy()?,
             import_id: copy_text(&self.import_id)?,
             version: copy_text(&self.version)?,

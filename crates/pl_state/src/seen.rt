@@ -2,10 +2,11 @@ ghost use Rattle.std.specs.Prelude.{◌≡◌, ◌&&◌, ◌||◌, ℕ, [], find
 ghost use Rattle.std.specs.Option.{option_copied};
 ghost use Rattle.std.specs.Str.{bytes_eq};
 ghost use Rattle.pl_state.specs.declared.fault.Missing.{Missing};
-ghost use Rattle.pl_state.specs.declared.fault.Missing.TheVariants.{Dependency, Parent, Provider};
+ghost use Rattle.pl_state.specs.declared.fault.Missing.TheVariants.{DeletedWith, Dependency, Parent, Provider};
 ghost use Rattle.pl_reference.specs.declared.reference.ProviderRef.{ProviderRef};
 ghost use Rattle.pl_state.specs.Seen.{gives, has_pair, has_text, HasOneMore};
-ghost use Rattle.pl_state.specs.Sound.{first_unmet, is_met, is_provider, keeps_urn, optional_wants, own_wants, property_urns};
+ghost use Rattle.pl_state.specs.References.{is_provider, keeps_urn, optional_refs, property_urns};
+ghost use Rattle.pl_state.specs.Sound.{first_unmet, is_met, own_wants};
 
 use crate::entry::Entry;
 use crate::fault::Missing;
@@ -126,7 +127,10 @@ impl<'a> Seen<'a> {
         if let Some(missing) = self.dependency_missing(row.dependencies.as_slice())? {
             return Ok(Some(missing));
         }
-        self.property_missing(row)
+        if let Some(missing) = self.property_missing(row)? {
+            return Ok(Some(missing));
+        }
+        self.deleter_missing(row)
     }
 
     fn own_missing(&self, row: &Entry) -> Result<Option<Missing>, OutOfMemory>
@@ -142,7 +146,7 @@ impl<'a> Seen<'a> {
 
     fn parent_missing(&self, row: &Entry) -> Result<Option<Missing>, OutOfMemory>
         ensures { IfOk result (λ missing.
-            missing ≡ find (λ want. not (gives self.now want)) (optional_wants Parent row.now.parent)) }
+            missing ≡ find (λ want. not (gives self.now want)) (optional_refs Parent row.now.parent)) }
     {
         let Some(parent) = &row.parent else {
             return Ok(None);
@@ -156,7 +160,7 @@ impl<'a> Seen<'a> {
 
     fn provider_missing(&self, row: &'a Entry) -> Result<Option<Missing>, OutOfMemory>
         ensures { IfOk result (λ missing.
-            missing ≡ find (λ want. not (gives self.now want)) (optional_wants Provider row.now.provider)) }
+            missing ≡ find (λ want. not (gives self.now want)) (optional_refs Provider row.now.provider)) }
     {
         let Some(provider) = &row.provider else {
             return Ok(None);
@@ -181,7 +185,7 @@ impl<'a> Seen<'a> {
 
     fn property_missing(&self, row: &Entry) -> Result<Option<Missing>, OutOfMemory>
         ensures { IfOk result (λ missing.
-            missing ≡ find (λ want. not (gives self.now want)) (map Dependency (property_urns row.now))) }
+            missing ≡ find (λ want. not (gives self.now want)) (map Dependency (property_urns row.now.property_dependencies))) }
     {
         for pair in row.property_dependencies.as_slice() {
             if let Some(missing) = self.dependency_missing(pair.1.as_slice())? {
@@ -189,6 +193,20 @@ impl<'a> Seen<'a> {
             }
         }
         Ok(None)
+    }
+
+    fn deleter_missing(&self, row: &Entry) -> Result<Option<Missing>, OutOfMemory>
+        ensures { IfOk result (λ missing.
+            missing ≡ find (λ want. not (gives self.now want)) (optional_refs DeletedWith row.now.deleted_with)) }
+    {
+        let Some(deleter) = &row.deleted_with else {
+            return Ok(None);
+        };
+        if self.has_urn(deleter) {
+            return Ok(None);
+        }
+        let deleter = deleter.copy()?;
+        Ok(Some(Missing::DeletedWith(deleter)))
     }
 
     /// The first of these URNs that no row has.

@@ -1,7 +1,8 @@
 ghost use Rattle.std.specs.Prelude.{◌≡◌, IfErr, MatchOption, OnOk};
 ghost use Rattle.std.specs.List.{list_all, list_any};
-ghost use Rattle.pl_state.specs.declared.fault.Missing.TheVariants.{Parent, Provider};
-ghost use Rattle.pl_state.specs.Sound.{finds_all, has_urn, is_met, is_provider, IsFirstFaulty, IsSound, keeps_urn, optional_wants, own_wants, TellsFault};
+ghost use Rattle.pl_state.specs.declared.fault.Missing.TheVariants.{DeletedWith, Parent, Provider};
+ghost use Rattle.pl_state.specs.References.{has_urn, is_provider, keeps_urn, optional_refs};
+ghost use Rattle.pl_state.specs.Sound.{finds_all, is_met, IsFirstFaulty, IsSound, own_wants, TellsFault};
 
 use crate::entries::Entries;
 use crate::entry::Entry;
@@ -27,8 +28,8 @@ pub fn fault_of(entries: &Entries) -> Option<u64>
 
 /// Whether each row finds what it refers to among the rows before it. Else tells the first row that does not,
 /// and what it misses first in this order: that no row before it keeps its URN, parent, provider,
-/// dependencies, property dependencies. Its time grows with the number of references, times the logarithm of
-/// the number of rows.
+/// dependencies, property dependencies, and what it is deleted with. Its time grows with the number of
+/// references, times the logarithm of the number of rows.
 pub fn is_sound(alloc: Global, entries: &Entries) -> Result<(), UnsoundOrMemory>
     ensures sound { OnOk result (IsSound entries.now) }
     ensures unsound { IfErr result (TellsFault entries.now) }
@@ -53,6 +54,7 @@ fn is_row_sound(before: &[Entry], row: &Entry) -> bool
         && is_provider_met(before, row)
         && has_urns(before, row.dependencies.as_slice())
         && has_property_urns(before, row)
+        && is_deleter_met(before, row)
 }
 
 fn is_own_met(before: &[Entry], row: &Entry) -> bool
@@ -62,7 +64,7 @@ fn is_own_met(before: &[Entry], row: &Entry) -> bool
 }
 
 fn is_parent_met(before: &[Entry], row: &Entry) -> bool
-    ensures { result ≡ list_all (is_met before.now) (optional_wants Parent row.now.parent) }
+    ensures { result ≡ list_all (is_met before.now) (optional_refs Parent row.now.parent) }
 {
     match &row.parent {
         None => true,
@@ -71,11 +73,20 @@ fn is_parent_met(before: &[Entry], row: &Entry) -> bool
 }
 
 fn is_provider_met(before: &[Entry], row: &Entry) -> bool
-    ensures { result ≡ list_all (is_met before.now) (optional_wants Provider row.now.provider) }
+    ensures { result ≡ list_all (is_met before.now) (optional_refs Provider row.now.provider) }
 {
     match &row.provider {
         None => true,
         Some(reference) => has_provider(before, reference),
+    }
+}
+
+fn is_deleter_met(before: &[Entry], row: &Entry) -> bool
+    ensures { result ≡ list_all (is_met before.now) (optional_refs DeletedWith row.now.deleted_with) }
+{
+    match &row.deleted_with {
+        None => true,
+        Some(deleter) => has_urn(before, deleter),
     }
 }
 

@@ -38,6 +38,7 @@ fn shown_missing(alloc: Global, missing: &Missing) -> Result<String, Fail> {
             Ok(format!(in alloc; "provider {name} {id}")?)
         }
         Missing::Dependency(urn) => Ok(format!(in alloc; "dependency {}", urn.name())?),
+        Missing::DeletedWith(urn) => Ok(format!(in alloc; "deleted with {}", urn.name())?),
     }
 }
 
@@ -45,6 +46,7 @@ fn set(alloc: Global, entry: &mut Entry, key: &str, value: &str) -> Result<(), F
     match key {
         "id" => entry.id = Some(Text::from_str(alloc, value)?),
         "parent" => entry.parent = Some(urn(alloc, value)?),
+        "deleter" => entry.deleted_with = Some(urn(alloc, value)?),
         "provider" => entry.provider = Some(reference(alloc, value)?),
         "dependency" => entry.dependencies.push(urn(alloc, value)?)?,
         "property" => {
@@ -103,6 +105,9 @@ fn first_faults(rt: HostRuntime) -> Result<(), Fail> {
         ("a;b dependency=a property=a", None, "sound"),
         ("a;b dependency=a property=z", Some(1), "1 dependency z"),
         ("a;b property=z dependency=y", Some(1), "1 dependency y"),
+        ("a doomed=;b deleter=a", None, "sound"),
+        ("b deleter=a;a", Some(0), "0 deleted with a"),
+        ("a;b deleter=y property=z", Some(1), "1 dependency z"),
     ] {
         let rows = rows(alloc, text)?;
         assert!(rt; fault_of(&rows) == at, "at {text}");

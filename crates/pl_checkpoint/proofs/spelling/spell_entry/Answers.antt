@@ -1,29 +1,12 @@
-use Rattle.std.proofs.Common.{codes, ap, ap₂, ◌∙◌}
-use Rattle.serde_json.proofs.Views.{view-Object}
-use Rattle.serde_json.specs.Data.{object, put, string}
-use Rattle.pl_checkpoint.specs.Spelled.{put_if_some, entry_fields, entry_data}
+use Rattle.std.proofs.Common.{◌≡◌, false, ap, ◌∙◌}
+use Rattle.serde_json.specs.View.{view}
+use Rattle.serde_json.specs.Written.{compact_text, has_float}
+use Rattle.pl_checkpoint.specs.Pieces.{entry_text}
+use Rattle.pl_checkpoint.proofs.Floats.{entry_whole}
 use Rattle.pl_checkpoint.proofs.spelling.spell_entry.Goals as goal
 
--- one line for each field, the last one first
 pub returns : goal.returns
-unfolding entry_data entry_fields
-returns c = view-Object c.put_text-2.new.members ∙ ap object (
-    c.in_ok-put_text-2.ensures ∙ ap₂ (λ text ms. put (codes "urn") (string text) ms) c.as_str-2.ensures.text (
-    c.in_ok-put_text.ensures ∙ ap₂ (λ text ms. put (codes "type") (string text) ms) c.as_str.ensures (
-    c.in_ok-put_flag-4.ensures ∙ ap (put_if_some _ _) (
-    c.in_ok-put_reference_if_some.ensures ∙ ap (put_if_some _ _) (
-    c.in_ok-put_flag-3.ensures ∙ ap (put_if_some _ _) (
-    c.in_ok-put_properties.ensures ∙ ap (put_if_some _ _) (
-    c.in_ok-put_urn_if_some.ensures ∙ ap (put_if_some _ _) (
-    c.in_ok-put_values-2.ensures ∙ ap (put_if_some _ _) (
-    c.in_ok-put_values.ensures ∙ ap (put_if_some _ _) (
-    c.in_ok-put_texts-2.ensures ∙ ap (put_if_some _ _) (
-    c.in_ok-put_text_if_some-2.ensures ∙ ap (put_if_some _ _) (
-    c.in_ok-put_text_if_some.ensures ∙ ap (put_if_some _ _) (
-    c.in_ok-put_flag-2.ensures ∙ ap (put_if_some _ _) (
-    c.in_ok-put_urns-2.ensures ∙ ap (put_if_some _ _) (
-    c.in_ok-put_flag.ensures ∙ ap (put_if_some _ _) (
-    c.in_ok-put_bool.ensures ∙ ap (put _ _) (
-    c.in_ok-put_urns.ensures ∙ ap (put_if_some _ _) (
-    c.in_ok-put_texts.ensures ∙ ap (put_if_some _ _) (
-    c.in_ok-fields.ensures)))))))))))))))))))
+unfolding entry_text
+returns c =
+    let none : has_float (view c.in_ok-value.value) ≡ false = ap has_float c.in_ok-value.ensures ∙ entry_whole c.args.entry.now in
+    c.from_string.ensures ∙ c.in_ok-text.ensures.text none ∙ ap compact_text c.in_ok-value.ensures

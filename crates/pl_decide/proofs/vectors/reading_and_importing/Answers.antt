@@ -19,6 +19,14 @@ pub returns-clause-over_external : goal.returns-clause-over_external
 unfolding parts_of before_cut after_cut begins_with_cut
 returns-clause-over_external c = refl
 
+pub returns-clause-pending : goal.returns-clause-pending
+unfolding parts_of before_cut after_cut begins_with_cut
+returns-clause-pending c = refl
+
+pub returns-clause-over_pending : goal.returns-clause-over_pending
+unfolding parts_of before_cut after_cut begins_with_cut
+returns-clause-over_pending c = refl
+
 pub returns-clause-imports : goal.returns-clause-imports
 unfolding parts_of before_cut after_cut begins_with_cut
 returns-clause-imports c = refl

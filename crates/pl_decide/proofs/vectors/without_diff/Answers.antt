@@ -31,6 +31,10 @@ pub returns-clause-asks : goal.returns-clause-asks
 unfolding parts_of before_cut after_cut begins_with_cut
 returns-clause-asks c = refl
 
+pub returns-clause-asks_over_pending : goal.returns-clause-asks_over_pending
+unfolding parts_of before_cut after_cut begins_with_cut
+returns-clause-asks_over_pending c = refl
+
 pub returns-clause-asks_nothing : goal.returns-clause-asks_nothing
 unfolding parts_of before_cut after_cut begins_with_cut
 returns-clause-asks_nothing c = refl

@@ -1,5 +1,6 @@
 use Rattle.std.proofs.Common.{[], ◌∷◌, Some, false, not, refl, ◌∙◌, ap, arith}
 use Rattle.pl_events.specs.declared.event.HostEnd.TheVariants.{Success}
+use Rattle.pl_world.specs.Told.{Grew}
 use Rattle.pl_engine.specs.declared.hear.Heard.{Heard}
 use Rattle.pl_components.specs.Saves.{must_save}
 use Rattle.pl_engine.specs.Spelled.{host_spelling}
@@ -7,7 +8,7 @@ use Rattle.pl_engine.specs.Journal.{end_event, run_of}
 use Rattle.pl_engine.proofs.Accepting.{Adds-ended}
 use Rattle.pl_engine.proofs.Answering.{Written-step, is_unposted}
 use Rattle.pl_engine.proofs.Causing.{EndCaused-ended, EndCaused-free, EndCaused-registered}
-use Rattle.pl_engine.proofs.Hearing.{TakenNow-ended, TakenNow-registered, TakenNow-success, spelled-heard}
+use Rattle.pl_engine.proofs.Hearing.{EndsFit-end, EndsFit-ended, EndsFit-registered, TakenNow-ended, TakenNow-registered, TakenNow-success, spelled-heard}
 use Rattle.pl_engine.proofs.Storing.{Stored-step, or_keeps}
 use Rattle.pl_engine.proofs.serve.step.Goals as goal
 
@@ -66,6 +67,26 @@ returns-in-Request-clause-taken g c = λ took.
     (c.in-Ok.ensures.heard.word
     ∙ ap (λ w. Some w) (ap (λ (h : Heard). h.word) c.in-Ok.field-0-is ∙ c.in-Request.is))
     c.in-Ok.ensures.heard.taken c.take_up.ensures.did
+
+pub returns-in-Err-clause-ends_fit : goal.returns-in-Err-clause-ends_fit
+returns-in-Err-clause-ends_fit g c = λ _.
+    EndsFit-ended (run_of c.args.journal.now) c.in-Err.end c.args.journal.now.history c.end_messages.new.journal.history c.end_messages.new.journal.wanted
+    (Grew (g.Q.Pipe.taken c.args.reading.now) (g.Q.Pipe.taken c.hear.new.reading))
+    c.requires.rest.host_open c.in-Err.ensures.ended c.end_messages.ensures.ended
+
+pub returns-in-Success-clause-ends_fit : goal.returns-in-Success-clause-ends_fit
+returns-in-Success-clause-ends_fit g c = λ _.
+    EndsFit-end (run_of c.args.journal.now) Success c.args.journal.now.history c.end_host.new.self.history
+    c.requires.rest.host_open c.end_host.ensures.ended tt
+
+pub returns-in-Request-clause-ends_fit : goal.returns-in-Request-clause-ends_fit
+returns-in-Request-clause-ends_fit g c =
+    EndsFit-registered c.take_up.result (run_of c.args.journal.now) c.in-Ok.field-0.body c.in-Request.request
+    c.args.journal.now c.take_up.new.journal c.take_up.new.writing.failed
+    c.requires.rest.host_open c.in-Ok.ensures.heard.body
+    (c.in-Ok.ensures.heard.word
+    ∙ ap (λ w. Some w) (ap (λ (h : Heard). h.word) c.in-Ok.field-0-is ∙ c.in-Request.is))
+    c.take_up.ensures.did
 
 pub returns-in-Err-clause-end_caused : goal.returns-in-Err-clause-end_caused
 returns-in-Err-clause-end_caused g c = λ _.

@@ -4,7 +4,7 @@ use Rattle.pl_cli.specs.declared.command.RunWords.{RunWords}
 use Rattle.pl_cli.specs.declared.table.OptionName.TheVariants.{Stack, Project}
 use Rattle.pl_cli.specs.Place.{given_value}
 use Rattle.pl_cli.specs.Reading.{engine_words, host_words}
-use Rattle.pl_engine.proofs.Beginning.{if_up, of-words, started-words}
+use Rattle.pl_engine.proofs.Beginning.{base-words, if_up, of-words, started-words}
 use Rattle.pl_engine.proofs.top.engine.Goals as goal
 
 pub returns-in-Ok-clause-started : goal.returns-in-Ok-clause-started
@@ -38,6 +38,16 @@ returns-in-Ok-clause-components g c =
       project = if_up c.in-Ok.command c.up_words.result (λ (run : RunWords). given_value Project (engine_words (map string_bytes c.args.words.now)) ≡ Some run.project) c.up_words.ensures c.in-Ok.ensures.project;
     })
     c.up.ensures.components
+
+pub returns-in-Ok-clause-base : goal.returns-in-Ok-clause-base
+returns-in-Ok-clause-base g c =
+    base-words c.up.result.run.host c.up.result.run.base (map string_bytes c.args.words.now) c.up_words.result
+    (record {
+      accepted = c.in-Ok.ensures.accepted;
+      stack = if_up c.in-Ok.command c.up_words.result (λ (run : RunWords). given_value Stack (engine_words (map string_bytes c.args.words.now)) ≡ Some run.stack) c.up_words.ensures c.in-Ok.ensures.stack;
+      project = if_up c.in-Ok.command c.up_words.result (λ (run : RunWords). given_value Project (engine_words (map string_bytes c.args.words.now)) ≡ Some run.project) c.up_words.ensures c.in-Ok.ensures.project;
+    })
+    c.up.ensures.base
 
 pub up-requires-clause-stack : goal.up-requires-clause-stack
 up-requires-clause-stack g c κs within =

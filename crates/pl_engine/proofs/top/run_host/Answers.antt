@@ -1,13 +1,15 @@
-use Rattle.std.proofs.Common.{◌≡◌, ℕ, List, Bool, reverse, IfSome, sym, ◌∙◌, ap, arith, subst}
+use Rattle.std.proofs.Common.{◌≡◌, ℕ, List, [], Option, Bool, reverse, IfSome, sym, ◌∙◌, ap, arith, subst}
 use Rattle.pl_state.specs.declared.snapshot.Snapshot.{Snapshot}
 use Rattle.pl_events.specs.declared.event.Event.{Event}
 use Rattle.pl_world.specs.Counts.{Rose}
+use Rattle.pl_world.specs.Told.{Piece}
+use Rattle.pl_state.specs.Component.{bare_state}
 use Rattle.pl_components.specs.Run.{Fixed}
 use Rattle.pl_components.specs.HostLines.{HostLines}
 use Rattle.pl_engine.specs.Spelled.{host_spelling}
 use Rattle.pl_engine.specs.Journal.{run_of}
 use Rattle.pl_engine.specs.Stored.{IsKeptUp}
-use Rattle.pl_engine.specs.Headline.{IsLegalRun, IsOutcome}
+use Rattle.pl_engine.specs.Headline.{IsLegalRun, IsOneWay, IsOutcome}
 use Rattle.pl_engine.proofs.Ending.{HostGave-written, IsKeptUp-stored, IsLegalRun-over, IsOutcome-over, Stored-begun, Taken-begun, Written-begun}
 use Rattle.pl_engine.proofs.top.run_host.Goals as goal
 
@@ -56,6 +58,7 @@ returns-clause-host_lines g c =
     c.serve.new.journal.history (g.Q.Pipe.taken c.serve.new.reading) (g.Q.Pipe.given c.serve.new.writing.half) = record {
       took = took;
       gave = HostGave-written (run_of c.new-journal.result) (g.Q.Pipe.faults c.serve.new.writing.half) c.serve.new.journal.wanted c.serve.new.writing.failed c.serve.new.journal.history (g.Q.Pipe.given c.serve.new.writing.half) written;
+      ends_fit = c.serve.ensures.ends_fit;
     } in
     subst (λ h. IfSome h (λ used. HostLines (record { stack = c.args.state.stack; project = c.args.project }) host_spelling
     (record { faults = g.Q.Pipe.faults used.0; ends = g.Q.Pipe.ends used.0; wanted = c.close.result.run.wanted })
@@ -89,3 +92,15 @@ returns-clause-outcome g c =
     (subst (λ (w : Bool). IsOutcome (record { stack = c.args.state.stack; project = c.args.project }) c.serve.new.journal.history c.close.result.run.marks.items w c.close.result.outcome (g.S.Store.story c.args.store.now) (g.S.Store.story c.serve.new.store)) (sym c.close.ensures.wanted)
     (subst (λ (ms : List ℕ). IsOutcome (record { stack = c.args.state.stack; project = c.args.project }) c.serve.new.journal.history ms c.serve.new.journal.wanted c.close.result.outcome (g.S.Store.story c.args.store.now) (g.S.Store.story c.serve.new.store)) (sym c.close.ensures.marks)
     (subst (λ (r : Fixed). IsOutcome r c.serve.new.journal.history c.serve.new.journal.marks.items c.serve.new.journal.wanted c.close.result.outcome (g.S.Store.story c.args.store.now) (g.S.Store.story c.serve.new.store)) same outcome)))
+
+pub returns-clause-base : goal.returns-clause-base
+returns-clause-base g c =
+    c.close.ensures.base ∙ ap (λ (s : Snapshot). record s { entries = [] }) c.serve.ensures.over.consistent.state
+    ∙ ap (λ (s : Snapshot). bare_state s.stack []) c.new-journal.ensures.state
+
+pub returns-clause-one_way : goal.returns-clause-one_way
+returns-clause-one_way g c =
+    subst (λ h. IfSome h (λ used. IsOneWay (g.Q.Pipe.given used.0) (g.Q.Pipe.taken used.1))) (sym c.close.ensures.host) (record {
+      reading = subst (λ (given : Option (List Piece)). IfSome given (λ pieces. pieces ≡ [])) (sym c.serve.ensures.given_stays) c.requires.reading.nothing_given;
+      writing = subst (λ (taken : Option (List ℕ)). IfSome taken (λ bytes. bytes ≡ [])) (sym c.serve.ensures.taken_stays) c.requires.writing.nothing_taken;
+    })

@@ -1,6 +1,6 @@
 use Rattle.std.proofs.Common.{◌≡◌, [], reverse}
 use Rattle.pl_world.specs.Counts.{Rose}
-use Rattle.pl_engine.specs.Headline.{IsEarly, IsUntouched}
+use Rattle.pl_engine.specs.Headline.{IsUntouched}
 use Rattle.pl_engine.proofs.Promising.{components-promised, legal-promised, lines-promised, outcome-promised, saved-promised, start-promised}
 use Rattle.pl_engine.proofs.top.up.Goals as goal
 

@@ -10,6 +10,10 @@ pub returns-clause-below : goal.returns-clause-below
 unfolding options_on_literals
 returns-clause-below c = refl
 
+pub returns-clause-deleted_with : goal.returns-clause-deleted_with
+unfolding options_on_literals
+returns-clause-deleted_with c = refl
+
 pub returns-clause-empty_texts : goal.returns-clause-empty_texts
 unfolding options_on_literals
 returns-clause-empty_texts c = refl

@@ -6,6 +6,14 @@ pub returns-clause-references : goal.returns-clause-references
 unfolding options_on_literals
 returns-clause-references c = refl
 
+pub returns-clause-deleter_before_alias : goal.returns-clause-deleter_before_alias
+unfolding options_on_literals
+returns-clause-deleter_before_alias c = refl
+
+pub returns-clause-deleter_after_property : goal.returns-clause-deleter_after_property
+unfolding options_on_literals
+returns-clause-deleter_after_property c = refl
+
 pub returns-clause-alias_last : goal.returns-clause-alias_last
 unfolding options_on_literals
 returns-clause-alias_last c = refl

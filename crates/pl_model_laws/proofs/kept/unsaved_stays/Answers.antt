@@ -1,0 +1,5 @@
+use Rattle.pl_model_laws.proofs.KeptState as proof
+use Rattle.pl_model_laws.proofs.kept.unsaved_stays.Goals as goal
+
+pub returns : goal.returns
+returns c = proof.unsaved-stays

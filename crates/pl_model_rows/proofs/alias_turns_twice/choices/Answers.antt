@@ -1,7 +1,0 @@
-use Rattle.std.proofs.Common.{refl}
-use Rattle.pl_model_rows.proofs.OnHistories.{on_histories}
-use Rattle.pl_model_rows.proofs.alias_turns_twice.choices.Goals as goal
-
-pub returns : goal.returns
-unfolding on_histories
-returns c = refl

@@ -1,0 +1,19 @@
+use Rattle.std.proofs.Common.{refl}
+use Rattle.pl_model_rows.proofs.OnHistories.{on_histories}
+use Rattle.pl_model_rows.proofs.import_and_missing_import.end.Goals as goal
+
+pub returns-clause-planned : goal.returns-clause-planned
+unfolding on_histories
+returns-clause-planned c = refl
+
+pub returns-clause-no_problem : goal.returns-clause-no_problem
+unfolding on_histories
+returns-clause-no_problem c = refl
+
+pub returns-clause-nothing_due : goal.returns-clause-nothing_due
+unfolding on_histories
+returns-clause-nothing_due c = refl
+
+pub returns-clause-nothing_over : goal.returns-clause-nothing_over
+unfolding on_histories
+returns-clause-nothing_over c = refl

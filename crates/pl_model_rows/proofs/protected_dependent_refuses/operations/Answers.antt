@@ -1,0 +1,7 @@
+use Rattle.std.proofs.Common.{refl}
+use Rattle.pl_model_rows.proofs.OnHistories.{on_histories}
+use Rattle.pl_model_rows.proofs.protected_dependent_refuses.operations.Goals as goal
+
+pub returns : goal.returns
+unfolding on_histories
+returns c = refl

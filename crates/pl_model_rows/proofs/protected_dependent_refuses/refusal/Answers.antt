@@ -1,0 +1,31 @@
+use Rattle.std.proofs.Common.{refl}
+use Rattle.pl_model_rows.proofs.OnHistories.{on_histories}
+use Rattle.pl_model_rows.proofs.protected_dependent_refuses.refusal.Goals as goal
+
+pub returns-clause-decided : goal.returns-clause-decided
+unfolding on_histories
+returns-clause-decided c = refl
+
+pub returns-clause-told : goal.returns-clause-told
+unfolding on_histories
+returns-clause-told c = refl
+
+pub returns-clause-due : goal.returns-clause-due
+unfolding on_histories
+returns-clause-due c = refl
+
+pub returns-clause-answer : goal.returns-clause-answer
+unfolding on_histories
+returns-clause-answer c = refl
+
+pub returns-clause-state : goal.returns-clause-state
+unfolding on_histories
+returns-clause-state c = refl
+
+pub returns-clause-saved : goal.returns-clause-saved
+unfolding on_histories
+returns-clause-saved c = refl
+
+pub returns-clause-nothing_due : goal.returns-clause-nothing_due
+unfolding on_histories
+returns-clause-nothing_due c = refl
