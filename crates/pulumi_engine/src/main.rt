@@ -1,33 +1,41 @@
-//! The program: it runs the engine over a world in memory. Standard input is the host's bytes, and the
-//! store's last content, if there is one, goes to standard output.
+//! The program: it runs the engine over a file, child processes and its own streams, and tells at the end
+//! in one line of standard error what came of it.
 #![tactic(auto)]
 
+mod report;
+#[cfg(test)]
+mod tests;
+
+use crate::report::{RunFacts, told};
+use pl_cli::file_of;
 use pl_engine::{Finished, World, engine};
-use pl_value::Bytes;
-use pl_world::{CountIds, FreeGate, MemPipe, MemSink, MemSpawner, MemStore, PipeScript};
-use std::alloc::Global;
-use std::env;
-use std::io::{self, Read, Write};
+use pl_events::{Event, What};
+use pl_os::{Children, FileStore, RandomIds, StandardOutput};
+use pl_value::OutOfMemory;
+use pl_world::FreeGate;
+use std::alloc::{AllocError, Global};
 use std::process::ExitCode;
+use std::sync::Wait;
+use std::thread::Threads;
+use std::{env, io};
 
 /// The status for words that are not UTF-8.
 const BAD_WORDS: u8 = 2;
 
-type Memory = World<MemStore, MemStore, MemSpawner, MemSink, CountIds, FreeGate>;
+/// The status where no memory was found before the engine began.
+const OUT_OF_MEMORY: u8 = 7;
 
-/// A world in memory whose host gives these bytes.
-fn memory_world(alloc: Global, input: Vec<u8>) -> io::Result<Memory> {
-    let mut scripts = Vec::new(alloc);
-    let mut reading = PipeScript::empty(alloc);
-    reading.input = input;
-    scripts.push(reading)?;
-    scripts.push(PipeScript::empty(alloc))?;
+type Real = World<FileStore, FileStore, Children, StandardOutput, RandomIds, FreeGate>;
+
+/// The world of files and processes, with the checkpoint in this file. No command of this version has a
+/// file beside it.
+fn real_world(rt: HostRuntime, ids: RandomIds, file: &str) -> Result<Real, OutOfMemory> {
     Ok(World {
-        store: MemStore::new(Vec::new(alloc), Vec::new(alloc), Vec::new(alloc)),
-        side: MemStore::new(Vec::new(alloc), Vec::new(alloc), Vec::new(alloc)),
-        spawner: MemSpawner::new(alloc, scripts, Vec::new(alloc)),
-        sink: MemSink::new(alloc, Vec::new(alloc), Vec::new(alloc)),
-        ids: CountIds::new(),
+        store: FileStore::new(rt, file)?,
+        side: FileStore::new(rt, "")?,
+        spawner: Children::new(rt),
+        sink: StandardOutput::new(rt),
+        ids,
         gate: FreeGate,
     })
 }
@@ -41,23 +49,69 @@ fn words_of(rt: &HostRuntime) -> Option<Vec<String>> {
     Some(words)
 }
 
-/// Prints the content that the store has at the end.
-fn print_content(rt: &HostRuntime, store: &MemStore) -> io::Result<()> {
-    match store.story().last() {
-        Some(content) => io::writer(rt).write_all(content.as_slice()),
-        None => Ok(()),
+/// The host's words, those after the first `--`, with blanks between them.
+fn host_of(alloc: Global, words: &[String]) -> Result<String, AllocError> {
+    let mut host = String::new(alloc);
+    for word in words
+        .iter()
+        .skip_while(|word| word.as_str() != "--")
+        .skip(1)
+    {
+        if !host.is_empty() {
+            host.push(' ')?;
+        }
+        host.push_str(word.as_str())?;
     }
+    Ok(host)
+}
+
+/// How many entries a run recorded, which began with none.
+fn recorded(history: &[Event]) -> usize {
+    history
+        .iter()
+        .filter(|event| matches!(event.what, What::Kept { .. }))
+        .count()
+}
+
+/// Carries out the words and tells what came of it; the status is the engine's.
+fn run<R: Threads + Wait + Sync>(
+    threads: &R,
+    rt: HostRuntime,
+    ids: RandomIds,
+    words: &[String],
+) -> Result<u8, OutOfMemory> {
+    let alloc = rt.alloc();
+    let file = file_of(alloc, words)?;
+    let host = host_of(alloc, words)?;
+    let world = real_world(rt, ids, file.as_str())?;
+    let Finished {
+        status,
+        outcome,
+        world,
+        run,
+    } = engine(threads, alloc, words, world);
+    let facts = RunFacts {
+        file: file.as_str(),
+        host: host.as_str(),
+        resources: recorded(run.history.as_slice()),
+    };
+    world.spawner.finish(run);
+    if let Ok(line) = told(alloc, &outcome, facts) {
+        let _ = rt.eprintln(line.as_str());
+    }
+    Ok(status)
 }
 
 fn main(rt: HostRuntime) -> io::Result<ExitCode> {
-    let alloc = rt.alloc();
     let Some(words) = words_of(&rt) else {
+        let _ = rt.eprintln("a word of the command line is not UTF-8");
         return Ok(ExitCode::from(BAD_WORDS));
     };
-    let mut input = Vec::new(alloc);
-    rt.reader().read_to_end(&mut input)?;
-    let world = memory_world(alloc, input)?;
-    let finished = engine(&rt, alloc, words.as_slice(), world);
-    print_content(&rt, &finished.world.store)?;
-    Ok(ExitCode::from(finished.status))
+    match run(&rt, rt, RandomIds::new(&rt)?, words.as_slice()) {
+        Ok(status) => Ok(ExitCode::from(status)),
+        Err(OutOfMemory) => {
+            let _ = rt.eprintln("out of memory");
+            Ok(ExitCode::from(OUT_OF_MEMORY))
+        }
+    }
 }
