@@ -1,6 +1,7 @@
 -- The fields of an object, set back at a path to those of an older one.
 use Rattle.std.specs.Prelude.{ℕ, ◌+◌, Bool, nat_lt, if◌then◌else◌, List, [], ◌∷◌, ◌++◌, drop, map, slice_get, take, bytes_eq, Option, None, Some}
 use Rattle.std.specs.List.{filter, list_any}
+use Rattle.pl_value.specs.Depth.{most_levels}
 use Rattle.pl_value.specs.Inside.{depth}
 use Rattle.pl_value.specs.Keys.{is_below}
 use Rattle.pl_value.specs.declared.value.Value.{Value, out-Value}
@@ -96,13 +97,9 @@ abbrev pub reset_fields : List Segment → Option Value → List (List ℕ × Va
 reset_fields [] old fields = fields
 reset_fields (segment ∷ path) old fields = reset_field (λ inner. reset_in path old inner) segment path old fields
 
--- how deep a value of an object's field may be
-abbrev pub deepest : ℕ
-deepest = 64
-
--- whether a value is deeper than that
+-- whether a value is deeper than a value may be
 abbrev pub is_too_deep : Value → Bool
-is_too_deep one = nat_lt deepest (depth one)
+is_too_deep one = nat_lt most_levels (depth one)
 
 -- whether a value of the fields is too deep
 abbrev pub are_too_deep : List (List ℕ × Value) → Bool

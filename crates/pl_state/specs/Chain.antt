@@ -1,6 +1,6 @@
 -- Which rows refer to a row, directly or through others, and which row is that of a row's provider.
-use Rattle.std.specs.Prelude.{ℕ, zero, suc, Bool, false, ◌&&◌, ◌||◌, if◌then◌else◌, length, nat_lt, option_and_then, slice_get, take, Option, None, Some, List, [], ◌∷◌, ◌++◌}
-use Rattle.std.specs.List.{list_any}
+use Rattle.std.specs.Prelude.{ℕ, zero, suc, Bool, false, not, ◌&&◌, ◌||◌, if◌then◌else◌, find, length, nat_lt, option_and_then, option_map, slice_get, take, Option, None, Some, List, [], ◌∷◌, ◌++◌}
+use Rattle.std.specs.List.{filter_map, list_any}
 use Rattle.pl_state.specs.declared.entry.Entry.{Entry}
 use Rattle.pl_reference.specs.declared.reference.ProviderRef.{ProviderRef}
 use Rattle.pl_state.specs.References.{has_urn, is_provider, names_row}
@@ -33,6 +33,18 @@ chain_among rows at (suc count) = chain_with rows at (chain_among rows at count)
 -- the places of all rows that refer to the row at a place, directly or through others, rising
 abbrev pub chain_of : List Entry → ℕ → List ℕ
 chain_of rows at = chain_among rows at (length rows)
+
+-- the rows at these places, each with its place
+abbrev pub rows_at : List Entry → List ℕ → List (ℕ × Entry)
+rows_at rows places = filter_map (λ place. option_map (λ row. (place, row)) (slice_get rows place)) places
+
+-- whether a row of a chain goes along with the row whose chain it is: nobody claims it, or it is to be deleted
+abbrev pub goes_along : (ℕ → Bool) → ℕ × Entry → Bool
+goes_along claims row = row.1.doomed || not (claims row.0)
+
+-- the first of a chain's rows that is protected and goes along
+abbrev pub first_protected : (ℕ → Bool) → List (ℕ × Entry) → Option Entry
+first_protected claims chain = option_map (λ row. row.1) (find (λ row. goes_along claims row && row.1.protect) chain)
 
 -- the place found, or else the given one if it is one
 abbrev pub or_else_place : Option ℕ → Bool → ℕ → Option ℕ

@@ -1,6 +1,5 @@
 pub mod Chain
 pub mod Component
+pub mod Formed
 pub mod Kinds
 pub mod References
-pub mod Seen
-pub mod Sound

@@ -81,28 +81,115 @@ impl Entry {
     pub fn copy(&self, alloc: Global) -> Result<Entry, OutOfMemory>
         ensures { IfOk result (λ made. made ≡ self.now) }
     {
+        let names = self.copy_names()?;
+        let links = self.copy_links()?;
+        let contents = self.copy_contents(alloc)?;
         Ok(Entry {
-            urn: self.urn.copy()?,
+            urn: names.urn,
             custom: self.custom,
+            kind: names.kind,
+            id: names.id,
+            inputs: contents.inputs,
+            outputs: contents.outputs,
+            parent: links.parent,
+            provider: links.provider,
+            dependencies: links.dependencies,
+            property_dependencies: links.property_dependencies,
+            doomed: self.doomed,
+            protect: self.protect,
+            external: self.external,
+            init_errors: contents.init_errors,
+            additional_secret_outputs: contents.additional_secret_outputs,
+            aliases: links.aliases,
+            import_id: names.import_id,
+            retain_on_delete: self.retain_on_delete,
+            deleted_with: links.deleted_with,
+            pending_replacement: self.pending_replacement,
+            rest: contents.rest,
+        })
+    }
+
+    fn copy_names(&self) -> Result<Names, OutOfMemory>
+        ensures { IfOk result (λ made. made ≡ record {
+          urn = self.now.urn;
+          kind = self.now.kind;
+          id = self.now.id;
+          import_id = self.now.import_id;
+        }) }
+    {
+        Ok(Names {
+            urn: self.urn.copy()?,
             kind: self.kind.copy()?,
             id: copy_text(&self.id)?,
-            inputs: self.inputs.copy(alloc)?,
-            outputs: self.outputs.copy(alloc)?,
+            import_id: copy_text(&self.import_id)?,
+        })
+    }
+
+    fn copy_links(&self) -> Result<Links, OutOfMemory>
+        ensures { IfOk result (λ made. made ≡ record {
+          parent = self.now.parent;
+          provider = self.now.provider;
+          dependencies = self.now.dependencies;
+          property_dependencies = self.now.property_dependencies;
+          aliases = self.now.aliases;
+          deleted_with = self.now.deleted_with;
+        }) }
+    {
+        Ok(Links {
             parent: copy_urn(&self.parent)?,
             provider: copy_reference(&self.provider)?,
             dependencies: self.dependencies.copy()?,
             property_dependencies: self.property_dependencies.copy()?,
-            doomed: self.doomed,
-            protect: self.protect,
-            external: self.external,
+            aliases: self.aliases.copy()?,
+            deleted_with: copy_urn(&self.deleted_with)?,
+        })
+    }
+
+    fn copy_contents(&self, alloc: Global) -> Result<Contents, OutOfMemory>
+        ensures { IfOk result (λ made. made ≡ record {
+          inputs = self.now.inputs;
+          outputs = self.now.outputs;
+          init_errors = self.now.init_errors;
+          additional_secret_outputs = self.now.additional_secret_outputs;
+          rest = self.now.rest;
+        }) }
+    {
+        Ok(Contents {
+            inputs: self.inputs.copy(alloc)?,
+            outputs: self.outputs.copy(alloc)?,
             init_errors: self.init_errors.copy()?,
             additional_secret_outputs: self.additional_secret_outputs.copy()?,
-            aliases: self.aliases.copy()?,
-            import_id: copy_text(&self.import_id)?,
-            retain_on_delete: self.retain_on_delete,
-            deleted_with: copy_urn(&self.deleted_with)?,
-            pending_replacement: self.pending_replacement,
             rest: self.rest.copy()?,
         })
     }
+}
+
+/// The texts that name a resource, as they are copied.
+#[derive(Drop)]
+struct Names {
+    urn: Urn,
+    kind: Text,
+    id: Option<Text>,
+    import_id: Option<Text>,
+}
+
+/// What an entry refers to, as it is copied.
+#[derive(Drop)]
+struct Links {
+    parent: Option<Urn>,
+    provider: Option<ProviderRef>,
+    dependencies: Urns,
+    property_dependencies: KeyedUrns,
+    aliases: Urns,
+    deleted_with: Option<Urn>,
+}
+
+/// The values and texts of an entry that nothing refers to, as they are copied.
+#[derive(Drop)]
+struct Contents {
+    inputs: Fields,
+    outputs: Fields,
+    init_errors: Texts,
+    additional_secret_outputs: Texts,
+    rest: Text,
 }

@@ -108,27 +108,91 @@ impl Registration {
     pub fn copy(&self, alloc: Global) -> Result<Registration, OutOfMemory>
         ensures { IfOk result (λ made. made ≡ self.now) }
     {
+        let words = self.copy_words()?;
+        let links = self.copy_links()?;
+        let inputs = self.inputs.copy(alloc)?;
+        let ignore_changes = self.ignore_changes.copy()?;
+        let additional_secret_outputs = self.additional_secret_outputs.copy()?;
         Ok(Registration {
-            kind: self.kind.copy()?,
-            name: self.name.copy()?,
+            kind: words.kind,
+            name: words.name,
             custom: self.custom,
-            inputs: self.inputs.copy(alloc)?,
-            parent: copy_text(&self.parent)?,
-            provider: copy_text(&self.provider)?,
-            dependencies: self.dependencies.copy()?,
-            property_dependencies: self.property_dependencies.copy()?,
+            inputs,
+            parent: links.parent,
+            provider: links.provider,
+            dependencies: links.dependencies,
+            property_dependencies: links.property_dependencies,
             protect: self.protect,
-            aliases: self.aliases.copy()?,
-            ignore_changes: self.ignore_changes.copy()?,
+            aliases: links.aliases,
+            ignore_changes,
             delete_before_replace: self.delete_before_replace,
             retain_on_delete: self.retain_on_delete,
-            deleted_with: copy_text(&self.deleted_with)?,
-            additional_secret_outputs: self.additional_secret_outputs.copy()?,
+            deleted_with: links.deleted_with,
+            additional_secret_outputs,
+            import_id: words.import_id,
+            version: words.version,
+            read_id: words.read_id,
+        })
+    }
+
+    fn copy_words(&self) -> Result<ToldWords, OutOfMemory>
+        ensures { IfOk result (λ made. made ≡ record {
+          kind = self.now.kind;
+          name = self.now.name;
+          import_id = self.now.import_id;
+          version = self.now.version;
+          read_id = self.now.read_id;
+        }) }
+    {
+        Ok(ToldWords {
+            kind: self.kind.copy()?,
+            name: self.name.copy()?,
             import_id: copy_text(&self.import_id)?,
             version: copy_text(&self.version)?,
             read_id: copy_text(&self.read_id)?,
         })
     }
+
+    fn copy_links(&self) -> Result<ToldLinks, OutOfMemory>
+        ensures { IfOk result (λ made. made ≡ record {
+          parent = self.now.parent;
+          provider = self.now.provider;
+          dependencies = self.now.dependencies;
+          property_dependencies = self.now.property_dependencies;
+          aliases = self.now.aliases;
+          deleted_with = self.now.deleted_with;
+        }) }
+    {
+        Ok(ToldLinks {
+            parent: copy_text(&self.parent)?,
+            provider: copy_text(&self.provider)?,
+            dependencies: self.dependencies.copy()?,
+            property_dependencies: self.property_dependencies.copy()?,
+            aliases: self.aliases.copy()?,
+            deleted_with: copy_text(&self.deleted_with)?,
+        })
+    }
+}
+
+/// The texts of a registration that name its resource, as they are copied.
+#[derive(Drop)]
+struct ToldWords {
+    kind: Text,
+    name: Text,
+    import_id: Option<Text>,
+    version: Option<Text>,
+    read_id: Option<Text>,
+}
+
+/// What a registration refers to, as it is copied.
+#[derive(Drop)]
+struct ToldLinks {
+    parent: Option<Text>,
+    provider: Option<Text>,
+    dependencies: Texts,
+    property_dependencies: KeyedTexts,
+    aliases: Texts,
+    deleted_with: Option<Text>,
 }
 
 /// An accepted registration, or the default provider that one needs.
@@ -162,27 +226,88 @@ impl Goal {
     pub fn copy(&self, alloc: Global) -> Result<Goal, OutOfMemory>
         ensures { IfOk result (λ made. made ≡ self.now) }
     {
+        let names = self.copy_names()?;
+        let links = self.copy_links()?;
+        let inputs = self.inputs.copy(alloc)?;
+        let ignore_changes = self.ignore_changes.copy()?;
+        let additional_secret_outputs = self.additional_secret_outputs.copy()?;
         Ok(Goal {
-            urn: self.urn.copy()?,
+            urn: names.urn,
             custom: self.custom,
-            kind: self.kind.copy()?,
-            inputs: self.inputs.copy(alloc)?,
-            parent: copy_urn(&self.parent)?,
+            kind: names.kind,
+            inputs,
+            parent: links.parent,
             provider: self.provider,
-            dependencies: self.dependencies.copy()?,
-            property_dependencies: self.property_dependencies.copy()?,
+            dependencies: links.dependencies,
+            property_dependencies: links.property_dependencies,
             protect: self.protect,
-            aliases: self.aliases.copy()?,
-            ignore_changes: self.ignore_changes.copy()?,
+            aliases: links.aliases,
+            ignore_changes,
             delete_before_replace: self.delete_before_replace,
             retain_on_delete: self.retain_on_delete,
-            deleted_with: copy_urn(&self.deleted_with)?,
-            additional_secret_outputs: self.additional_secret_outputs.copy()?,
+            deleted_with: links.deleted_with,
+            additional_secret_outputs,
+            import_id: names.import_id,
+            version: names.version,
+            read_id: names.read_id,
+        })
+    }
+
+    fn copy_names(&self) -> Result<GoalNames, OutOfMemory>
+        ensures { IfOk result (λ made. made ≡ record {
+          urn = self.now.urn;
+          kind = self.now.kind;
+          import_id = self.now.import_id;
+          version = self.now.version;
+          read_id = self.now.read_id;
+        }) }
+    {
+        Ok(GoalNames {
+            urn: self.urn.copy()?,
+            kind: self.kind.copy()?,
             import_id: copy_text(&self.import_id)?,
             version: copy_text(&self.version)?,
             read_id: copy_text(&self.read_id)?,
         })
     }
+
+    fn copy_links(&self) -> Result<GoalLinks, OutOfMemory>
+        ensures { IfOk result (λ made. made ≡ record {
+          parent = self.now.parent;
+          dependencies = self.now.dependencies;
+          property_dependencies = self.now.property_dependencies;
+          aliases = self.now.aliases;
+          deleted_with = self.now.deleted_with;
+        }) }
+    {
+        Ok(GoalLinks {
+            parent: copy_urn(&self.parent)?,
+            dependencies: self.dependencies.copy()?,
+            property_dependencies: self.property_dependencies.copy()?,
+            aliases: self.aliases.copy()?,
+            deleted_with: copy_urn(&self.deleted_with)?,
+        })
+    }
+}
+
+/// The texts of a goal that name its resource, as they are copied.
+#[derive(Drop)]
+struct GoalNames {
+    urn: Urn,
+    kind: Text,
+    import_id: Option<Text>,
+    version: Option<Text>,
+    read_id: Option<Text>,
+}
+
+/// What a goal refers to, as it is copied.
+#[derive(Drop)]
+struct GoalLinks {
+    parent: Option<Urn>,
+    dependencies: Urns,
+    property_dependencies: KeyedUrns,
+    aliases: Urns,
+    deleted_with: Option<Urn>,
 }
 
 /// Goals in the order of their registration, seen as their list.

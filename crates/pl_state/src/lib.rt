@@ -6,11 +6,7 @@ mod entry;
 mod fault;
 mod goal;
 mod pending;
-mod seen;
 mod snapshot;
-mod sound;
-#[cfg(test)]
-mod tests;
 
 pub use entries::Entries;
 pub use entry::Entry;
@@ -21,4 +17,3 @@ pub use pl_reference::{
     Imports, KeyedTexts, KeyedUrns, ProviderRef, ProviderWords, RefFault, Urns, read_ref,
 };
 pub use snapshot::Snapshot;
-pub use sound::{fault_of, is_sound};

@@ -6,3 +6,4 @@ pub mod Marks
 pub mod Same
 pub mod Secrets
 pub mod Shown
+pub mod Depth
