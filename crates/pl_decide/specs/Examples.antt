@@ -3,7 +3,7 @@ use Rattle.std.specs.Prelude.{ℕ, Bool, true, false, Option, None, Some, List, 
 use Rattle.pl_value.specs.declared.value.Value.{Value}
 use Rattle.pl_value.specs.declared.value.Value.TheVariants as value
 use Rattle.pl_state.specs.Component.{plain_goal}
-use Rattle.pl_decide.specs.Rows.{provider_urn, thing_row, thing_urn}
+use Rattle.pl_decide.specs.Rows.{provider_urn, second_thing, thing_row, thing_urn}
 use Rattle.pl_state.specs.declared.entry.Entry.{Entry}
 use Rattle.pl_state.specs.declared.goal.Changes.TheVariants.{NoChange, SomeChange, NotKnown}
 use Rattle.pl_state.specs.declared.goal.Diffed.{Diffed}
@@ -93,3 +93,23 @@ other_target = record { only = Some (thing_urn (codes "b") ∷ []); plan = None 
 -- the thing may be created anew, and nothing else may be done
 abbrev pub small_plan : Limits
 small_plan = record { only = None; plan = Some ((a_urn, codes "create-replacement") ∷ (a_urn, codes "delete-replaced") ∷ []) }
+
+-- the thing may be made anew, and its old one may not go
+abbrev pub creating_plan : Limits
+creating_plan = record { only = None; plan = Some ((a_urn, codes "create-replacement") ∷ []) }
+
+-- the chain of the thing: the one that depends on it
+abbrev pub small_chain : List (ℕ × Entry)
+small_chain = (4, second_thing) ∷ []
+
+-- the same, protected
+abbrev pub protected_chain : List (ℕ × Entry)
+protected_chain = (4, record second_thing { protect = true }) ∷ []
+
+-- no goal claims a row
+abbrev pub no_claims : ℕ → Bool
+no_claims place = false
+
+-- a goal claims each row
+abbrev pub all_claims : ℕ → Bool
+all_claims place = true

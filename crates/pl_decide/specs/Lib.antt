@@ -1,4 +1,5 @@
 pub mod Examples
+pub mod Limited
 pub mod Permits
 pub mod Rows
 pub mod Table

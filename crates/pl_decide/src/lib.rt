@@ -2,17 +2,27 @@
 #![tactic(auto)]
 
 mod decision;
+mod kinds;
+mod limited;
 mod limits;
 mod outcome;
+mod permitted;
 mod problem;
+mod table;
 #[cfg(test)]
 mod tests;
 mod vectors;
 
 pub use decision::{Decision, ProviderChange};
+pub use limited::{decide, is_delete_first, is_replacement, own_refusal};
 pub use limits::{Limits, PlanLines};
 pub use outcome::Outcome;
+pub use permitted::{
+    is_wanted, permits_chained, permits_left, permits_replaced, permits_step, step_name,
+};
 pub use problem::{Child, Problem};
+pub use table::needs_diff;
 pub use vectors::{
-    chains, permits, provider_urns, reading_and_importing, references, with_diff, without_diff,
+    chains, final_decisions, permits, provider_urns, reading_and_importing, references, refusals,
+    with_diff, without_diff,
 };

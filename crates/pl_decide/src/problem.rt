@@ -18,7 +18,8 @@ pub enum Child {
 pub enum Problem {
     /// A registration's options make no goal.
     BadOption(OptionFault),
-    /// A request refers to what no recorded goal is.
+    /// A request refers to what no accepted goal is, by a provider reference to what no recorded goal with that id is.
+    /// In a refresh, an import's provider reference that no row meets.
     UnknownReference(Text),
     /// An earlier goal has the same URN.
     DuplicateUrn(Urn),
@@ -46,7 +47,7 @@ pub enum Problem {
     ErrorReply(Text),
     /// The provider did its work in part.
     PartialReply(Urn),
-    /// An answer's frame would have been longer than a frame may be.
+    /// What was to be sent to a provider or answered to the host would have been longer than a frame may be.
     MessageTooLong,
     /// The host ended by an error of its own.
     HostError(Text),

@@ -1,6 +1,7 @@
 use super::*;
-use pl_state::{BadCheckpoint, Urns};
-use pl_value::{JsonFault, Text};
+use pl_state::{BadCheckpoint, Goal, KeyedUrns, Urns};
+use pl_urn::Urn;
+use pl_value::{Fields, JsonFault, OutOfMemory, Text, Texts};
 use std::alloc::Global;
 use std::test::Fail;
 
@@ -53,5 +54,81 @@ fn limits_are_copied(rt: HostRuntime) -> Result<(), Fail> {
     let shown = format!(in alloc; "{copied:?}")?;
     assert!(rt; shown.contains("create"));
     assert!(rt; shown == format!(in alloc; "{limits:?}")?);
+    Ok(())
+}
+
+fn thing_urn(alloc: Global) -> Result<Urn, Fail> {
+    Ok(pl_urn::parse(alloc, "urn:pulumi:dev::web::toy:i:T::a")?)
+}
+
+fn custom_goal(alloc: Global, urn: Urn, kind: Text) -> Goal {
+    Goal {
+        urn,
+        custom: true,
+        kind,
+        inputs: Fields::new(alloc),
+        parent: None,
+        provider: None,
+        dependencies: Urns::new(alloc),
+        property_dependencies: KeyedUrns::new(alloc),
+        protect: false,
+        aliases: Urns::new(alloc),
+        ignore_changes: Texts::new(alloc),
+        delete_before_replace: None,
+        retain_on_delete: false,
+        deleted_with: None,
+        additional_secret_outputs: Texts::new(alloc),
+        import_id: None,
+        version: None,
+        read_id: None,
+    }
+}
+
+fn thing_goal(alloc: Global) -> Result<Goal, Fail> {
+    let urn = thing_urn(alloc)?;
+    let kind = Text::from_str(alloc, "toy:i:T")?;
+    Ok(custom_goal(alloc, urn, kind))
+}
+
+// The limits under which nothing or everything may be changed.
+fn limits_of(alloc: Global, limited: bool) -> Limits {
+    let only = if limited {
+        Some(Urns::new(alloc))
+    } else {
+        None
+    };
+    Limits { only, plan: None }
+}
+
+fn decided(goal: &Goal, limits: &Limits) -> Result<Decision, OutOfMemory> {
+    decide(None, goal, ProviderChange::Same, &goal.inputs, None, limits)
+}
+
+fn is_created(goal: &Goal, limits: &Limits) -> bool {
+    matches!(decided(goal, limits), Ok(Decision::Create))
+}
+
+fn is_refused(goal: &Goal, limits: &Limits) -> bool {
+    matches!(
+        decided(goal, limits),
+        Ok(Decision::Refused(Problem::NotPermitted(_)))
+    )
+}
+
+fn has_refusal(goal: &Goal, limits: &Limits) -> bool {
+    matches!(
+        own_refusal(limits, None, goal, &Decision::Create),
+        Ok(Some(Problem::NotPermitted(_)))
+    )
+}
+
+#[test]
+fn goals_are_decided(rt: HostRuntime) -> Result<(), Fail> {
+    let goal = thing_goal(rt.alloc())?;
+    let free = limits_of(rt.alloc(), false);
+    let limited = limits_of(rt.alloc(), true);
+    assert!(rt; is_created(&goal, &free));
+    assert!(rt; is_refused(&goal, &limited));
+    assert!(rt; has_refusal(&goal, &limited));
     Ok(())
 }

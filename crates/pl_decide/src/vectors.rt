@@ -1,9 +1,10 @@
 ghost use Rattle.std.specs.Prelude.{◌≡◌, [], ◌∷◌, codes, false, None, Some, true};
 ghost use Rattle.pl_state.specs.Chain.{chain_of, provider_row_of, refers_to};
 ghost use Rattle.pl_state.specs.Kinds.{is_of_default, is_of_provider};
-ghost use Rattle.pl_decide.specs.Examples.{a_urn, component_goal, component_kin, external_kin, half_made_kin, importing_goal, no_change, no_limits, not_known, one_input, other_target, pending_kin, protected_kin, provider_goal, reading_goal, replacing_change, small_plan, some_change, stubborn_goal, thing_goal, thing_kin};
+ghost use Rattle.pl_decide.specs.Examples.{a_urn, all_claims, component_goal, component_kin, creating_plan, external_kin, half_made_kin, importing_goal, no_change, no_claims, no_limits, not_known, one_input, other_target, pending_kin, protected_chain, protected_kin, provider_goal, reading_goal, replacing_change, small_chain, small_plan, some_change, stubborn_goal, thing_goal, thing_kin};
+ghost use Rattle.pl_decide.specs.Limited.{final_decision, first_refusal, own_refusal};
 ghost use Rattle.pl_decide.specs.Permits.{permits_chained, permits_left, permits_replaced, permits_step, step_name};
-ghost use Rattle.pl_decide.specs.Rows.{example_rows, provider_urn, stack_urn};
+ghost use Rattle.pl_decide.specs.Rows.{example_rows, provider_urn, second_thing, stack_urn};
 ghost use Rattle.pl_decide.specs.Table.{decide, needs_diff};
 
 use crate::decision::{Decision, ProviderChange};
@@ -62,6 +63,26 @@ pub fn permits()
     ensures claimed { permits_chained other_target true false a_urn ≡ true }
     ensures left { permits_left small_plan a_urn a_urn ≡ true }
     ensures name { step_name true Decision.Create ≡ codes "create-replacement" }
+{}
+
+/// Cases of refusals by the limits and by a chain: of the goal, of its claim alone, by a protected row before the
+/// limits, and by a row that the plan leaves out.
+pub fn refusals()
+    ensures goal { own_refusal small_plan (Some thing_kin) thing_goal Decision.Update ≡ Some (Problem.NotPermitted a_urn) }
+    ensures claim { own_refusal creating_plan (Some thing_kin) thing_goal (Decision.Replace true) ≡ Some (Problem.NotPermitted a_urn) }
+    ensures permitted { own_refusal small_plan (Some thing_kin) thing_goal (Decision.Replace true) ≡ None }
+    ensures protected { first_refusal other_target (Some thing_kin) thing_goal no_claims protected_chain (Decision.Replace false) ≡ Some (Problem.Protected second_thing.urn) }
+    ensures unplanned { first_refusal small_plan (Some thing_kin) thing_goal no_claims small_chain (Decision.Replace false) ≡ Some (Problem.NotPermitted second_thing.urn) }
+    ensures claimed { first_refusal small_plan (Some thing_kin) thing_goal all_claims protected_chain (Decision.Replace false) ≡ None }
+{}
+
+/// Cases of what is decided at last, over a chain.
+pub fn final_decisions()
+    ensures permitted { final_decision no_limits (Some thing_kin) thing_goal no_claims small_chain (Decision.Replace false) ≡ Decision.Replace false }
+    ensures protected { final_decision no_limits (Some thing_kin) thing_goal no_claims protected_chain (Decision.Replace false) ≡ Decision.Refused (Problem.Protected second_thing.urn) }
+    ensures unplanned { final_decision small_plan (Some thing_kin) thing_goal no_claims small_chain (Decision.Replace false) ≡ Decision.Refused (Problem.NotPermitted second_thing.urn) }
+    ensures created_first { final_decision no_limits (Some thing_kin) thing_goal no_claims protected_chain (Decision.Replace true) ≡ Decision.Replace true }
+    ensures refused { final_decision other_target (Some thing_kin) thing_goal no_claims [] (Decision.Refused (Problem.CustomChanged a_urn)) ≡ Decision.Refused (Problem.CustomChanged a_urn) }
 {}
 
 /// Cases of chains: of a thing, of a provider that has a double, of the last row, and of no row.

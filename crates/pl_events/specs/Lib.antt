@@ -1,2 +1,5 @@
 pub mod Closing
 pub mod Halted
+pub mod Lanes
+pub mod Replies
+pub mod Requests

@@ -1,4 +1,5 @@
 ghost use Rattle.std.specs.Prelude.{◌≡◌, IfOk};
+ghost use Rattle.pl_events.specs.Lanes.{LanesTold};
 
 use pl_urn::Urn;
 use pl_value::{Fields, OutOfMemory, Text};
@@ -143,14 +144,20 @@ impl Ask {
 
 /// The places of the provider children, as the choice of due work sees them.
 pub trait LaneView {
+    // what is told of the lanes and of the host's writing half
+    ghost told: { Self → LanesTold };
+
     /// The least configured child of this source that is neither at work nor lost.
-    fn lane_free(&self, source: Source) -> Option<u64>;
+    fn lane_free(&self, source: Source) -> Option<u64>
+        ensures { result ≡ (told self.now).free source };
 
     /// Whether one more child of this source may be started.
-    fn may_start(&self, source: Source) -> bool;
+    fn may_start(&self, source: Source) -> bool
+        ensures { result ≡ (told self.now).may_start source };
 
     /// Whether the host's writing half is at hand and has not failed.
-    fn half_home(&self) -> bool;
+    fn half_home(&self) -> bool
+        ensures { result ≡ (told self.now).half_home };
 }
 
 pub(crate) fn copy_fields(

@@ -1,1 +1,5 @@
+pub mod Faults
+pub mod FirstBad
 pub mod OnLiterals
+pub mod Readers
+pub mod Renamed
