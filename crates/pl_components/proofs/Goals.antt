@@ -12,7 +12,7 @@ use Rattle.pl_state.specs.Kinds.{is_of_provider}
 use Rattle.pl_state.specs.declared.goal.Goal.{Goal}
 use Rattle.pl_state.specs.declared.goal.Registration.{Registration}
 use Rattle.pl_decide.specs.declared.decision.Decision.TheVariants.{Create}
-use Rattle.pl_model.specs.Claims.{Decided}
+use Rattle.pl_model.specs.declared.decided.Decided.{Decided}
 use Rattle.pl_model.specs.Decisions.{decided_after, decided_at, decided_of, turn_of}
 use Rattle.pl_components.specs.Run.{Fixed}
 use Rattle.pl_components.specs.Requests.{goal_for, has_goal, has_parent, is_acceptable}

@@ -14,9 +14,15 @@ use Rattle.pl_events.specs.declared.event.Request.TheVariants.{Register, Outputs
 use Rattle.pl_events.specs.declared.event.What.{What}
 use Rattle.pl_events.specs.declared.event.What.TheVariants.{Told, HostGone, Begun, Answered, Lost, Kept, Dropped, Cleared, Posted, Stopped}
 use Rattle.pl_decide.specs.declared.problem.Problem.{Problem}
-use Rattle.pl_model.specs.Claims.{Decided, goal_number, number_where}
-use Rattle.pl_model.specs.Tickets.{Closed, Errand, answers_of, begun_of, closed_by, errand_by}
-use Rattle.pl_model.specs.Known.{Asked, Fate, Known, accepted, halted, known_with, number_of}
+use Rattle.pl_model.specs.declared.decided.Decided.{Decided}
+use Rattle.pl_model.specs.declared.errand.Closed.{Closed}
+use Rattle.pl_model.specs.declared.errand.Errand.{Errand}
+use Rattle.pl_model.specs.declared.heard.Fate.{Fate}
+use Rattle.pl_model.specs.declared.heard.Fate.TheVariants.{Accepted as accepted, Halted as halted}
+use Rattle.pl_model.specs.declared.heard.Heard.{Heard}
+use Rattle.pl_model.specs.Claims.{goal_number, number_where}
+use Rattle.pl_model.specs.Tickets.{answers_of, begun_of, closed_by, errand_by}
+use Rattle.pl_model.specs.Known.{Known, known_with, number_of}
 use Rattle.pl_model.specs.Requests as requests
 use Rattle.pl_model.specs.Problems.{at_position, decision_problems, end_problems, ends_well, made_problems, missing_provider, newly_decided, own_problem, problems_at, provider_problems, refusal_in, request_problem}
 use Rattle.pl_model.specs.Problems as problems
@@ -37,15 +43,15 @@ abbrev pub fate_if : Bool → Fate
 fate_if true = halted
 fate_if false = accepted
 
-abbrev pub asked_as : Bool → List Goal → Request → Asked
+abbrev pub asked_as : Bool → List Goal → Request → Heard
 asked_as shut goals request = record { request = request; fate = fate_if shut; about = made_by shut goals }
 
-abbrev pub asked_after : Bool → List Goal → What → List Asked → List Asked
+abbrev pub asked_after : Bool → List Goal → What → List Heard → List Heard
 asked_after shut goals (Told request) asked = asked_as shut goals request ∷ asked
 asked_after shut goals _ asked = asked
 
 -- the told requests, newest first
-abbrev pub asked_of : Fixed → List Event → List Asked
+abbrev pub asked_of : Fixed → List Event → List Heard
 asked_of run [] = []
 asked_of run (event ∷ past) = asked_after (has_problem past) (goals_of run past) event.what (asked_of run past)
 
@@ -328,7 +334,7 @@ module _ (run : Fixed) (parallel : ℕ) (past : List Event) (event : Event) wher
 
   asked_known : (what : What) → ((request : Request) → what ≡ Told request → IsTold run parallel past request)
       → history.asked_after old what ≡ asked_after (has_problem past) (goals_of run past) what (asked_of run past)
-  asked_known (Told request) told = ap (λ (one : Asked). one ∷ asked_of run past) ((told request refl).asked)
+  asked_known (Told request) told = ap (λ (one : Heard). one ∷ asked_of run past) ((told request refl).asked)
   asked_known (HostGone end) told = refl
   asked_known (Begun ticket lane op) told = refl
   asked_known (Answered ticket reply) told = refl
@@ -339,7 +345,7 @@ module _ (run : Fixed) (parallel : ℕ) (past : List Event) (event : Event) wher
   asked_known (Posted n) told = refl
   asked_known (Stopped stop) told = refl
 
-  abbrev with : List Closed → List Goal → List Asked → Known
+  abbrev with : List Closed → List Goal → List Heard → Known
   with answers goals asked = known_with (whole run parallel) (event ∷ past) answers goals asked (placed_of past)
 
   known_new : answers_of (event ∷ past) ≡ [] → Each IsFit (goals_of run (event ∷ past))
@@ -348,7 +354,7 @@ module _ (run : Fixed) (parallel : ℕ) (past : List Event) (event : Event) wher
   known_new none fit told =
       ap (λ (answers : List Closed). with answers (history.goals_after old event.what) (history.asked_after old event.what)) none
       ∙ ap (λ (goals : List Goal). with [] goals (history.asked_after old event.what)) (goals_known event.what told)
-      ∙ ap (λ (asked : List Asked). with [] (goals_of run (event ∷ past)) asked) (asked_known event.what told)
+      ∙ ap (λ (asked : List Heard). with [] (goals_of run (event ∷ past)) asked) (asked_known event.what told)
       ∙ ap (λ (decided : List Decided). record new { decided = decided }) (decided_goals run parallel (goals_of run (event ∷ past)) fit)
 
   known_next : (spelling : Spelling) → MayHappen run spelling past event.seat event.what → answers_of (event ∷ past) ≡ []

@@ -25,7 +25,7 @@ use Rattle.pl_model.specs.Fulfilment as fulfilment
 use Rattle.pl_model.specs.Fulfilment.{AllOnce}
 use Rattle.pl_model.specs.History.{known_of}
 use Rattle.pl_model.specs.Legal as legal_specs
-use Rattle.pl_model.specs.Legal.{HasForm, last_of}
+use Rattle.pl_model.specs.Legal.{last_of}
 use Rattle.pl_model.specs.Posts as posts
 use Rattle.pl_model.specs.Run.{Spelling}
 use Rattle.pl_components.specs.Run.{Fixed}
@@ -61,11 +61,11 @@ module _ (run : Fixed) (parallel : ℕ) (spelling : Spelling) (past : List Event
   next_number (Register n told) stands above =
       ap (λ (last : ℕ). nat_lt last n) ((IsWaited-legal run spelling past h.legal).last) ∙ above
 
-  may_be_told : (seat : ℕ) (request : Request) → MayBeTold run spelling past seat request → legal_specs.MayBeTold spelling known seat request
+  may_be_told : (seat : ℕ) (request : Request) → MayBeTold run spelling past seat request → legal_specs.MayBeTold known seat request
   may_be_told seat request may = record {
     registrar = may.registrar;
     host_open = may.host_open;
-    form = may.spelled.form;
+    formed = may.spelled.formed;
     next = next_number request (may_stand-next run past request may.next) (and_left (nat_lt (last_number past) (number_of request)) (may_stand run past request) may.next);
   }
 
@@ -84,7 +84,7 @@ module _ (run : Fixed) (parallel : ℕ) (spelling : Spelling) (past : List Event
         ap (λ (answer : Answer). posts.is_too_long spelling n answer) (answer_same run parallel spelling past h n due) ∙ long,
       )
 
-  stop_fits : (stop : Stop) → StopFits run spelling past stop → legal_specs.StopFits spelling known stop
+  stop_fits : (stop : Stop) → StopFits run spelling past stop → legal_specs.StopFits known stop
   stop_fits stopped.StoreFault may = tt
   stop_fits stopped.StartFault may = tt
   stop_fits stopped.HostPipeFault may = tt
@@ -93,11 +93,10 @@ module _ (run : Fixed) (parallel : ℕ) (spelling : Spelling) (past : List Event
     closed = closed run parallel spelling past h;
     some_over = some_over run parallel spelling past h may.some_over.0 may.some_over.1;
   }
-  stop_fits stopped.MessageTooLong may = too_long may
+  stop_fits stopped.MessageTooLong may = tt
   stop_fits stopped.NoMemory may = tt
 
-  may_happen : (seat : ℕ) (what : What) → MayHappen run spelling past seat what
-      → legal_specs.MayHappen spelling known seat what
+  may_happen : (seat : ℕ) (what : What) → MayHappen run spelling past seat what → legal_specs.MayHappen known seat what
   may_happen seat (Told request) may = may_be_told seat request may
   may_happen seat (HostGone end) may = record { registrar = may.registrar; host_open = may.host_open }
   may_happen seat (Begun ticket lane op) may = absurd may
@@ -109,6 +108,16 @@ module _ (run : Fixed) (parallel : ℕ) (spelling : Spelling) (past : List Event
   may_happen seat (Posted n) may = post_known run parallel spelling past h n ∙ may
   may_happen seat (Stopped stop) may = record { first = may.first; fits = stop_fits stop may.fits }
 
+  stop_spelled : (stop : Stop) → StopFits run spelling past stop → legal_specs.IsSpelled spelling known (Stopped stop)
+  stop_spelled stopped.MessageTooLong may = too_long may
+  stop_spelled _ may = tt
+
+  is_spelled : (seat : ℕ) (what : What) → MayHappen run spelling past seat what → legal_specs.IsSpelled spelling known what
+  is_spelled seat (Told request) may = may.spelled.form
+  is_spelled seat (Answered ticket reply) may = absurd may
+  is_spelled seat (Stopped stop) may = stop_spelled stop may.fits
+  is_spelled seat _ may = tt
+
   quiet_known : IsQuiet run past → due.IsQuiet known
   quiet_known quiet = record {
     closed = closed run parallel spelling past h;
@@ -116,15 +125,32 @@ module _ (run : Fixed) (parallel : ℕ) (spelling : Spelling) (past : List Event
     nothing_over = nothing_over run parallel spelling past h quiet.nothing_over;
   }
 
-pub legal_too : (run : Fixed) (parallel : ℕ) (spelling : Spelling) (history : List Event) → IsComponentRun run spelling history
-    → legal_specs.IsLegal (whole run parallel) spelling history
-legal_too run parallel spelling [] h = tt
-legal_too run parallel spelling (event ∷ past) h =
+orderly_too : (run : Fixed) (parallel : ℕ) (spelling : Spelling) (history : List Event) → IsComponentRun run spelling history
+    → legal_specs.IsOrderly (whole run parallel) history
+orderly_too run parallel spelling [] h = tt
+orderly_too run parallel spelling (event ∷ past) h =
     let before : IsComponentRun run spelling past = before_run run spelling event past h in (
-      legal_too run parallel spelling past before,
-      subst (λ (known : Known). legal_specs.MayHappen spelling known event.seat event.what) (sym (known_is run parallel spelling past before))
+      orderly_too run parallel spelling past before,
+      subst (λ (known : Known). legal_specs.MayHappen known event.seat event.what) (sym (known_is run parallel spelling past before))
           (may_happen run parallel spelling past before event.seat event.what h.legal.1),
     )
+
+spelled_too : (run : Fixed) (parallel : ℕ) (spelling : Spelling) (history : List Event) → IsComponentRun run spelling history
+    → legal_specs.AreSpelled (whole run parallel) spelling history
+spelled_too run parallel spelling [] h = tt
+spelled_too run parallel spelling (event ∷ past) h =
+    let before : IsComponentRun run spelling past = before_run run spelling event past h in (
+      spelled_too run parallel spelling past before,
+      subst (λ (known : Known). legal_specs.IsSpelled spelling known event.what) (sym (known_is run parallel spelling past before))
+          (is_spelled run parallel spelling past before event.seat event.what h.legal.1),
+    )
+
+pub legal_too : (run : Fixed) (parallel : ℕ) (spelling : Spelling) (history : List Event) → IsComponentRun run spelling history
+    → legal_specs.IsLegal (whole run parallel) spelling history
+legal_too run parallel spelling history h = record {
+  orderly = orderly_too run parallel spelling history h;
+  spelled = spelled_too run parallel spelling history h;
+}
 
 pub quiet_too : (run : Fixed) (parallel : ℕ) (spelling : Spelling) (history : List Event) → IsComponentRun run spelling history
     → IsQuiet run history → due.IsQuiet (known_of (whole run parallel) history)

@@ -12,8 +12,9 @@ use Rattle.pl_events.specs.declared.event.Request.{Request}
 use Rattle.pl_events.specs.declared.event.Request.TheVariants.{Register, Outputs, Invoke}
 use Rattle.pl_events.specs.declared.event.What.{What}
 use Rattle.pl_events.specs.declared.event.What.TheVariants.{Told, HostGone, Begun, Answered, Lost, Kept, Dropped, Cleared, Posted, Stopped}
-use Rattle.pl_model.specs.Claims.{Decided, numbered}
-use Rattle.pl_model.specs.Tickets.{Closed}
+use Rattle.pl_model.specs.declared.decided.Decided.{Decided}
+use Rattle.pl_model.specs.declared.errand.Closed.{Closed}
+use Rattle.pl_model.specs.Claims.{numbered}
 use Rattle.pl_model.specs.Recording.{has_number, kept_by, only_if, recorded_by_reply, recorded_of}
 use Rattle.pl_model.specs.Known.{Known}
 use Rattle.pl_model.specs.Entries.{Result, goal_entry, recorded_entry, result_kept, result_with, told_by, told_outputs, with_outputs}

@@ -5,7 +5,6 @@ use Rattle.std.proofs.lemmas.List.{reverse-append}
 use Rattle.std.proofs.lemmas.List.Elements.{filter_map-append}
 use Rattle.std.specs.List.{cons_option}
 use Rattle.std.specs.Option.{option_or}
-use Rattle.pl_state.specs.Component.{bare_state}
 use Rattle.pl_state.specs.declared.entry.Entry.{Entry}
 use Rattle.pl_state.specs.declared.goal.Goal.{Goal}
 use Rattle.pl_events.specs.declared.event.Event.{Event}
@@ -16,14 +15,16 @@ use Rattle.pl_events.specs.declared.event.What.TheVariants.{Told, HostGone, Begu
 use Rattle.pl_model.specs.Run.{Pairs}
 use Rattle.pl_model.specs.Claims.{first_some}
 use Rattle.pl_model.specs.Recording.{has_number, only_if}
-use Rattle.pl_model.specs.Known.{Asked, Known}
+use Rattle.pl_model.specs.declared.errand.Opened.{Opened}
+use Rattle.pl_model.specs.declared.heard.Heard.{Heard}
+use Rattle.pl_model.specs.Known.{Known}
 use Rattle.pl_model.specs.Entries.{recorded_entry, told_by, told_outputs, with_outputs}
 use Rattle.pl_model.specs.Entries as entries
-use Rattle.pl_model.specs.State.{Opened, opened_by, opened_of, own_pending, state_now, was_answered}
+use Rattle.pl_model.specs.State.{opened_by, opened_of, own_pending, state_now, was_answered}
 use Rattle.pl_model.specs.State as state
 use Rattle.pl_model.specs.History.{known_of}
 use Rattle.pl_model.specs.Run.{Spelling}
-use Rattle.pl_components.specs.Run.{Fixed}
+use Rattle.pl_components.specs.Run.{Fixed, state_with}
 use Rattle.pl_components.specs.Problems.{has_problem}
 use Rattle.pl_components.specs.Requests.{goal_at, goal_for, goals_of, made_by, may_stand}
 use Rattle.pl_components.specs.Entries.{entry_if, entry_of, new_entries, state_of}
@@ -37,7 +38,7 @@ use Rattle.pl_components.proofs.Recorded.{IsCounted, IsCounted-legal, entry_know
 -- ---- told outputs
 
 -- a request that tells no outputs
-abbrev pub TellsNone : Asked → Type 0
+abbrev pub TellsNone : Heard → Type 0
 TellsNone asked = (g : ℕ) → told_by g asked.request asked.about ≡ None
 
 tells_next : (run : Fixed) (spelling : Spelling) (past : List Event) (seat : ℕ) (what : What) → MayHappen run spelling past seat what
@@ -62,11 +63,11 @@ tells_none : (run : Fixed) (spelling : Spelling) (past : List Event) → IsLegal
 tells_none run spelling [] legal = tt
 tells_none run spelling (event ∷ past) legal = tells_next run spelling past event.seat event.what legal.1 (tells_none run spelling past legal.0)
 
-no_outputs : (g : ℕ) (asked : List Asked) → Each TellsNone asked
-    → first_some (λ (one : Asked). told_by g one.request one.about) asked ≡ None
+no_outputs : (g : ℕ) (asked : List Heard) → Each TellsNone asked
+    → first_some (λ (one : Heard). told_by g one.request one.about) asked ≡ None
 no_outputs g [] h = refl
 no_outputs g (one ∷ earlier) h =
-    ap (λ (first : Option Pairs). option_or first (first_some (λ (one : Asked). told_by g one.request one.about) earlier)) (h.0 g)
+    ap (λ (first : Option Pairs). option_or first (first_some (λ (one : Heard). told_by g one.request one.about) earlier)) (h.0 g)
     ∙ no_outputs g earlier h.1
 
 with_none : (entry : Option Entry) → option_map (with_outputs None) entry ≡ entry
@@ -196,7 +197,7 @@ module _ (run : Fixed) (parallel : ℕ) (spelling : Spelling) (past : List Event
   pending_known = no_pending run parallel spelling past h.legal
 
   pub state_known : state_now known ≡ state_of run past
-  state_known = λ i. record (bare_state run.stack []) { entries = now_known i; pending = pending_known i }
+  state_known = λ i. record (state_with run []) { entries = now_known i; pending = pending_known i }
 
 pub states_agree : (run : Fixed) (parallel : ℕ) (spelling : Spelling) (history : List Event) → IsComponentRun run spelling history
     → state.state_of (whole run parallel) history ≡ state_of run history

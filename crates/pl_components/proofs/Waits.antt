@@ -9,7 +9,8 @@ use Rattle.pl_events.specs.declared.event.Request.TheVariants.{Register, Outputs
 use Rattle.pl_events.specs.declared.event.What.{What}
 use Rattle.pl_events.specs.declared.event.What.TheVariants.{Told, HostGone, Begun, Answered, Lost, Kept, Dropped, Cleared, Posted, Stopped}
 use Rattle.pl_model.specs.Recording.{has_number, posted_of}
-use Rattle.pl_model.specs.Known.{Asked, Known, asked_at, number_of}
+use Rattle.pl_model.specs.declared.heard.Heard.{Heard}
+use Rattle.pl_model.specs.Known.{Known, asked_at, number_of}
 use Rattle.pl_model.specs.Known as known
 use Rattle.pl_model.specs.Legal as legal
 use Rattle.pl_model.specs.Run.{Spelling}
@@ -22,12 +23,12 @@ use Rattle.pl_components.proofs.Lists.{Each, Each-weaker, and_left, and_right, n
 use Rattle.pl_components.proofs.Knowing.{asked_as, asked_of, may_stand-next}
 
 -- a request is a registration that was told with these goals
-abbrev pub IsAsked : Asked → Type 0
+abbrev pub IsAsked : Heard → Type 0
 IsAsked asked = (shut : Bool) × (goals : List Goal) × (n : ℕ) × (told : Registration) × (asked ≡ asked_as shut goals (Register n told))
 
 -- the told request of this number
-abbrev pub asked_in : List Asked → ℕ → Option Asked
-asked_in asked n = find (λ (one : Asked). known.number_of one.request == n) asked
+abbrev pub asked_in : List Heard → ℕ → Option Heard
+asked_in asked n = find (λ (one : Heard). known.number_of one.request == n) asked
 
 -- what waits is what was told and not posted
 pub record IsWaited (run : Fixed) (past : List Event) : Type 0 where
@@ -37,7 +38,7 @@ pub record IsWaited (run : Fixed) (past : List Event) : Type 0 where
   pub below : (n : ℕ) → is_waiting (waiting_of run past) n ≡ true → n ≤ last_number past
   pub told : (n : ℕ) → is_waiting (waiting_of run past) n ≡ (not (has_number (posted_of past) n) && is_some (asked_in (asked_of run past) n))
   pub made : (n : ℕ) → is_waiting (waiting_of run past) n ≡ true
-      → made_for (waiting_of run past) n ≡ option_and_then (λ (one : Asked). one.about) (asked_in (asked_of run past) n)
+      → made_for (waiting_of run past) n ≡ option_and_then (λ (one : Heard). one.about) (asked_in (asked_of run past) n)
 
 none_beyond : (last : ℕ) (xs : List ℕ) → Each (λ g. g ≤ last) xs → (k : ℕ) → last < k → has_number xs k ≡ false
 none_beyond last [] h k high = refl
@@ -71,7 +72,7 @@ waited_told run past seat m told high h = record {
 
     made : (n : ℕ) (b : Bool) → (m == n) ≡ b → (b || is_waiting (waiting_of run past) n) ≡ true
         → (if b then made_by (has_problem past) (goals_of run past) else made_for (waiting_of run past) n)
-        ≡ option_and_then (λ (one : Asked). one.about) (cond b (Some (asked_as (has_problem past) (goals_of run past) (Register m told))) (asked_in (asked_of run past) n))
+        ≡ option_and_then (λ (one : Heard). one.about) (cond b (Some (asked_as (has_problem past) (goals_of run past) (Register m told))) (asked_in (asked_of run past) n))
     made n true is w = refl
     made n false is w = h.made n w
 

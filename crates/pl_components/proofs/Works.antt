@@ -18,15 +18,20 @@ use Rattle.pl_events.specs.declared.operation.Source.{Source}
 use Rattle.pl_events.specs.declared.operation.Source.TheVariants as source
 use Rattle.pl_events.specs.declared.operation.Subject.TheVariants as subject
 use Rattle.pl_model.specs.Run as model
-use Rattle.pl_model.specs.Claims.{Decided, is_create_first}
+use Rattle.pl_decide.specs.Limited.{is_create_first}
+use Rattle.pl_model.specs.declared.decided.Decided.{Decided}
+use Rattle.pl_model.specs.declared.errand.Errand.{Errand}
+use Rattle.pl_model.specs.declared.heard.Heard.{Heard}
+use Rattle.pl_model.specs.declared.work.Work.{Work}
+use Rattle.pl_model.specs.declared.work.Work.TheVariants.{Clear as to_clear, Drop as to_drop, Keep as to_keep, Post as to_post, Send as to_send}
 use Rattle.pl_model.specs.Decisions.{turn_in}
-use Rattle.pl_model.specs.Tickets.{Errand, is_closed, is_coming, is_source, lane_free, lanes_from, open_errands}
+use Rattle.pl_model.specs.Tickets.{is_closed, is_coming, is_source, lane_free, lanes_from, open_errands}
 use Rattle.pl_model.specs.Recording.{has_number, only_if, posted_of, recorded_of}
-use Rattle.pl_model.specs.Known.{Asked, Known, asked_at, next_turn}
+use Rattle.pl_model.specs.Known.{Known, asked_at, next_turn}
 use Rattle.pl_model.specs.Known as known_specs
 use Rattle.pl_model.specs.Entries as entries
 use Rattle.pl_model.specs.State.{pending_of}
-use Rattle.pl_model.specs.Due.{Work, to_post, to_keep, to_clear, to_drop, to_send, added_by, claim_leaves, count_of, due_work, for_decided, goal_numbers, has_open, is_asked, is_due, is_due_on, is_invoke, is_next_lane, is_over_limit, is_ready, is_lane_of, is_ready_on, is_recorded_about, is_removable, is_settled_request, is_wanted_op, lane_numbers, operations_of, over_limit, pending_numbers, passes_limit, request_numbers, sends_goal, source_of_op, works_of}
+use Rattle.pl_model.specs.Due.{added_by, claim_leaves, count_of, due_work, for_decided, goal_numbers, has_open, is_asked, is_due, is_due_on, is_invoke, is_next_lane, is_over_limit, is_ready, is_lane_of, is_ready_on, is_recorded_about, is_removable, is_settled_request, is_wanted_op, lane_numbers, operations_of, over_limit, pending_numbers, passes_limit, request_numbers, sends_goal, source_of_op, works_of}
 use Rattle.pl_model.specs.Due as due
 use Rattle.pl_model.specs.Rows.{has_dependents, is_doomed, is_left, is_sent, is_taken_out, is_taken_over, is_target, row_numbers, takes_along, was_removed}
 use Rattle.pl_model.specs.Posts.{answer_for, answer_or, registered}
@@ -116,9 +121,9 @@ module _ (run : Fixed) (parallel : ℕ) (spelling : Spelling) (past : List Event
   settled_as true goals n told = refl
   settled_as false goals n told = refl
 
-  settled : (one : Asked) → IsAsked one → is_settled_request known one ≡ some_passes (λ g. has_number (recorded_of past) g) one.about
+  settled : (one : Heard) → IsAsked one → is_settled_request known one ≡ some_passes (λ g. has_number (recorded_of past) g) one.about
   settled one is =
-      subst (λ (x : Asked). is_settled_request known x ≡ some_passes (λ g. has_number (recorded_of past) g) x.about) (sym is.4)
+      subst (λ (x : Heard). is_settled_request known x ≡ some_passes (λ g. has_number (recorded_of past) g) x.about) (sym is.4)
       (settled_as is.0 is.1 is.2 is.3)
 
   answer_entry : (found : Option Goal) → answer_or (option_map registered (option_map entry_of found)) ≡ components.answer_for found
@@ -138,9 +143,9 @@ module _ (run : Fixed) (parallel : ℕ) (spelling : Spelling) (past : List Event
   answered_as true goals n told = refl
   answered_as false goals n told = answer_about (length goals)
 
-  answered : (one : Asked) → IsAsked one → answer_for known (Some one) ≡ components.answer_for (recorded_goal (goals_of run past) (unrecorded_of run past) one.about)
+  answered : (one : Heard) → IsAsked one → answer_for known (Some one) ≡ components.answer_for (recorded_goal (goals_of run past) (unrecorded_of run past) one.about)
   answered one is =
-      subst (λ (x : Asked). answer_for known (Some x) ≡ components.answer_for (recorded_goal (goals_of run past) (unrecorded_of run past) x.about)) (sym is.4)
+      subst (λ (x : Heard). answer_for known (Some x) ≡ components.answer_for (recorded_goal (goals_of run past) (unrecorded_of run past) x.about)) (sym is.4)
       (answered_as is.0 is.1 is.2 is.3)
 
   post_same : (posted waits settled kp ko some hp : Bool) → waits ≡ (not posted && true) → kp ≡ hp → ko ≡ false → (waits ≡ true → settled ≡ some)
@@ -148,30 +153,30 @@ module _ (run : Fixed) (parallel : ℕ) (spelling : Spelling) (past : List Event
   post_same true waits settled kp ko some hp w k o same = rw w refl
   post_same false waits settled kp ko some hp w k o same = rw (same w, w, k, o, and_true hp) refl
 
-  asked_each : (n : ℕ) (one : Asked) → asked_in (asked_of run past) n ≡ Some one → IsAsked one
-  asked_each n one is = find_each IsAsked (λ (x : Asked). known_specs.number_of x.request == n) (asked_of run past) waited.registered one is
+  asked_each : (n : ℕ) (one : Heard) → asked_in (asked_of run past) n ≡ Some one → IsAsked one
+  asked_each n one is = find_each IsAsked (λ (x : Heard). known_specs.number_of x.request == n) (asked_of run past) waited.registered one is
 
   -- a post is due in both views
   pub post_known : (n : ℕ) → due.is_post_due known n ≡ is_post_due run past n
   post_known n = by (asked_in (asked_of run past) n) refl (waited.told n) (waited.made n)
     where
-      test : Asked → Bool
+      test : Heard → Bool
       test one = is_settled_request known one || (known_specs.has_problem known && not (has_open known))
 
       none : (p q : Bool) → (not p && false) ≡ ((not p && false) && q)
       none true q = refl
       none false q = refl
 
-      by : (found : Option Asked) → asked_in (asked_of run past) n ≡ found
+      by : (found : Option Heard) → asked_in (asked_of run past) n ≡ found
           → is_waiting (waiting_of run past) n ≡ (not (has_number (posted_of past) n) && is_some found)
-          → (is_waiting (waiting_of run past) n ≡ true → made_for (waiting_of run past) n ≡ option_and_then (λ (one : Asked). one.about) found)
+          → (is_waiting (waiting_of run past) n ≡ true → made_for (waiting_of run past) n ≡ option_and_then (λ (one : Heard). one.about) found)
           → due.is_post_due known n ≡ is_post_due run past n
       by None is waits made =
-          ap (λ (found : Option Asked). not (has_number (posted_of past) n) && some_passes (λ (one : Asked). is_settled_request known one || (known_specs.has_problem known && not (has_open known))) found) is
+          ap (λ (found : Option Heard). not (has_number (posted_of past) n) && some_passes (λ (one : Heard). is_settled_request known one || (known_specs.has_problem known && not (has_open known))) found) is
           ∙ none (has_number (posted_of past) n) (is_some (result_of run past n) || has_problem past)
           ∙ ap (λ b. b && (is_some (result_of run past n) || has_problem past)) (sym waits)
       by (Some one) is waits made =
-          ap (λ (found : Option Asked). not (has_number (posted_of past) n) && some_passes (λ (one : Asked). is_settled_request known one || (known_specs.has_problem known && not (has_open known))) found) is
+          ap (λ (found : Option Heard). not (has_number (posted_of past) n) && some_passes (λ (one : Heard). is_settled_request known one || (known_specs.has_problem known && not (has_open known))) found) is
           ∙ post_same (has_number (posted_of past) n) (is_waiting (waiting_of run past) n) (is_settled_request known one) (known_specs.has_problem known)
           (has_open known) (is_some (result_of run past n)) (has_problem past) waits (has_problem-placed past) closed
           (λ w. settled one (asked_each n one is) ∙ sym (result_about one.about)
@@ -181,13 +186,13 @@ module _ (run : Fixed) (parallel : ℕ) (spelling : Spelling) (past : List Event
   pub answer_known : (n : ℕ) → is_waiting (waiting_of run past) n ≡ true → answer_for known (asked_at known n) ≡ components.answer_for (result_of run past n)
   answer_known n w = by (asked_in (asked_of run past) n) refl (waited.told n) (waited.made n)
     where
-      by : (found : Option Asked) → asked_in (asked_of run past) n ≡ found
+      by : (found : Option Heard) → asked_in (asked_of run past) n ≡ found
           → is_waiting (waiting_of run past) n ≡ (not (has_number (posted_of past) n) && is_some found)
-          → (is_waiting (waiting_of run past) n ≡ true → made_for (waiting_of run past) n ≡ option_and_then (λ (one : Asked). one.about) found)
+          → (is_waiting (waiting_of run past) n ≡ true → made_for (waiting_of run past) n ≡ option_and_then (λ (one : Heard). one.about) found)
           → answer_for known (asked_at known n) ≡ components.answer_for (result_of run past n)
       by None is waits made = absurd (let e : false ≡ true = sym (and_false (not (has_number (posted_of past) n))) ∙ sym waits ∙ w in cc)
       by (Some one) is waits made =
-          ap (λ (found : Option Asked). answer_for known found) is ∙ answered one (asked_each n one is)
+          ap (λ (found : Option Heard). answer_for known found) is ∙ answered one (asked_each n one is)
           ∙ ap (λ (about : Option ℕ). components.answer_for (recorded_goal (goals_of run past) (unrecorded_of run past) about)) (sym (made w))
 
   -- ---- no operation is asked for
@@ -208,15 +213,15 @@ module _ (run : Fixed) (parallel : ℕ) (spelling : Spelling) (past : List Event
           let one : IsFit goal = goal_at-each IsFit (goals_of run past) fits g goal is in
           subst (λ (x : Goal). sends_goal known g about x plain_decided ≡ false) (sym one.plain) (sends_plain g about goal.urn goal.kind goal.parent)
 
-  no_invoke : (n : ℕ) → some_passes (λ (one : Asked). is_invoke known one.request one.about) (asked_at known n) ≡ false
+  no_invoke : (n : ℕ) → some_passes (λ (one : Heard). is_invoke known one.request one.about) (asked_at known n) ≡ false
   no_invoke n = by (asked_in (asked_of run past) n) refl
     where
-      by : (found : Option Asked) → asked_in (asked_of run past) n ≡ found → some_passes (λ (one : Asked). is_invoke known one.request one.about) (asked_at known n) ≡ false
-      by None is = ap (λ (found : Option Asked). some_passes (λ (one : Asked). is_invoke known one.request one.about) found) is
+      by : (found : Option Heard) → asked_in (asked_of run past) n ≡ found → some_passes (λ (one : Heard). is_invoke known one.request one.about) (asked_at known n) ≡ false
+      by None is = ap (λ (found : Option Heard). some_passes (λ (one : Heard). is_invoke known one.request one.about) found) is
       by (Some one) is =
           let asked : IsAsked one = asked_each n one is in
-          ap (λ (found : Option Asked). some_passes (λ (one : Asked). is_invoke known one.request one.about) found) is
-          ∙ ap (λ (x : Asked). is_invoke known x.request x.about) asked.4
+          ap (λ (found : Option Heard). some_passes (λ (one : Heard). is_invoke known one.request one.about) found) is
+          ∙ ap (λ (x : Heard). is_invoke known x.request x.about) asked.4
 
   no_op : (about : Op) → is_asked known about ≡ false
   no_op (op.CheckConfig (subject.Goal g)) = rw no_turn refl

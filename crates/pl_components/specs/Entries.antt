@@ -5,11 +5,11 @@ use Rattle.std.specs.Str.{bytes_eq}
 use Rattle.pl_state.specs.declared.goal.Goal.{Goal}
 use Rattle.pl_state.specs.declared.entry.Entry.{Entry}
 use Rattle.pl_state.specs.declared.snapshot.Snapshot.{Snapshot}
-use Rattle.pl_state.specs.Component.{bare_state, component_entry}
+use Rattle.pl_state.specs.Component.{component_entry}
 use Rattle.pl_events.specs.declared.event.Event.{Event}
 use Rattle.pl_events.specs.declared.event.What.{What}
 use Rattle.pl_events.specs.declared.event.What.TheVariants.{Told, Kept}
-use Rattle.pl_components.specs.Run.{Fixed}
+use Rattle.pl_components.specs.Run.{Fixed, state_with}
 use Rattle.pl_components.specs.Problems.{has_problem}
 use Rattle.pl_components.specs.Requests.{goals_of, goal_at}
 
@@ -34,7 +34,7 @@ new_entries run (event ∷ past) = entries_after event.what (goals_of run past) 
 
 -- the state of a history
 abbrev pub state_of : Fixed → List Event → Snapshot
-state_of run history = bare_state run.stack (new_entries run history)
+state_of run history = state_with run (new_entries run history)
 
 -- whether an entry of this URN is recorded
 abbrev pub has_entry : List Entry → List ℕ → Bool

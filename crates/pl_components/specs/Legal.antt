@@ -1,6 +1,7 @@
 -- Which histories a run may have.
 use Rattle.std.specs.Prelude.{⊤, ◌≡◌, ℕ, Bool, true, false, Option, None, List, [], ◌∷◌}
 use Rattle.pl_events.specs.Closing.{has_host_end, has_stop}
+use Rattle.pl_events.specs.Requests.{is_formed_request}
 use Rattle.pl_events.specs.declared.event.Event.{Event}
 use Rattle.pl_events.specs.declared.event.What.{What}
 use Rattle.pl_events.specs.declared.event.What.TheVariants.{Told, HostGone, Kept, Posted, Stopped}
@@ -20,9 +21,10 @@ abbrev pub is_of_provider_type : Request → Bool
 is_of_provider_type (Register n told) = is_provider_type told.kind
 is_of_provider_type _ = false
 
--- a request is one that a frame's body spells, and registers no provider
+-- a request is one that a frame's body spells, has the form of one, and registers no provider
 pub record IsSpelled (spelling : Spelling) (request : Request) : Type 0 where
   pub form : HasForm spelling request
+  pub formed : is_formed_request request ≡ true
   pub other : is_of_provider_type request ≡ false
 
 -- a request may be told: by the registrar, before the host's end, spelled, and where it may come next

@@ -2,11 +2,14 @@
 use Rattle.std.specs.Prelude.{◌≡◌, ℕ, Bool, true, not, ◌&&◌, if◌then◌else◌, nat_lt, unwrap_or, Option, None, Some, find, length}
 use Rattle.std.specs.List.{range_with_len}
 use Rattle.pl_state.specs.Component.{has_none}
+use Rattle.pl_events.specs.Lanes.{LanesTold}
 use Rattle.pl_events.specs.declared.operation.Op.{Op}
 use Rattle.pl_events.specs.declared.operation.Source.{Source}
 use Rattle.pl_model.specs.Tickets.{lane_count, lane_free, lanes_from}
 use Rattle.pl_model.specs.Known.{Known}
-use Rattle.pl_model.specs.Due.{Work, to_post, to_keep, to_clear, to_drop, to_send, due_work, has_open, is_due, is_due_on, over_limit, works_of}
+use Rattle.pl_model.specs.declared.work.Work.{Work}
+use Rattle.pl_model.specs.declared.work.Work.TheVariants.{Clear as to_clear, Drop as to_drop, Keep as to_keep, Post as to_post, Send as to_send}
+use Rattle.pl_model.specs.Due.{due_work, has_open, is_due, is_due_on, over_limit, works_of}
 
 -- ---- lanes
 
@@ -18,15 +21,8 @@ lane_there known about = find (is_due_on known about) (range_with_len 0 (lane_co
 abbrev pub lane_for : Known → Op → ℕ
 lane_for known about = unwrap_or (lane_there known about) (lane_count known.history)
 
--- what a table of lanes tells: the free lane of a source, whether a source may have one more lane, and whether the
--- host's writing half is at home
-pub record LaneTable : Type 0 where
-  pub free : Source → Option ℕ
-  pub may_start : Source → Bool
-  pub half_home : Bool
-
 -- a table tells the lanes of a history
-pub record TellsLanes (table : LaneTable) (known : Known) : Type 0 where
+pub record TellsLanes (table : LanesTold) (known : Known) : Type 0 where
   pub free : (source : Source) → table.free source ≡ lane_free known.history source
   pub may_start : (source : Source)
       → table.may_start source ≡ nat_lt (length (lanes_from known.history source)) known.run.parallel

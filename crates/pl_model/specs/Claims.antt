@@ -11,9 +11,10 @@ use Rattle.pl_state.specs.Kinds.{is_provider_goal, is_provider_row}
 use Rattle.pl_state.specs.References.{has_urn}
 use Rattle.pl_state.specs.declared.entry.Entry.{Entry}
 use Rattle.pl_state.specs.declared.goal.Goal.{Goal}
-use Rattle.pl_decide.specs.declared.decision.Decision.{Decision}
-use Rattle.pl_decide.specs.declared.decision.Decision.TheVariants.{Replace}
-use Rattle.pl_model.specs.Run.{Fixed, Pairs, rows_of}
+use Rattle.pl_decide.specs.Limited.{is_delete_first}
+use Rattle.pl_model.specs.declared.decided.Decided.{Decided}
+use Rattle.pl_model.specs.declared.fixed.Fixed.{Fixed}
+use Rattle.pl_model.specs.Run.{rows_of}
 use Rattle.pl_model.specs.Recording.{has_number}
 
 -- Goals and what is decided of them stand newest first; a goal's number is the count of the goals before it.
@@ -34,24 +35,6 @@ goal_number goals urn = number_where (λ goal. bytes_eq goal.urn urn) goals
 abbrev pub first_some : {X Y : Type 0} → (X → Option Y) → List X → Option Y
 first_some found [] = None
 first_some found (x ∷ others) = option_or (found x) (first_some found others)
-
--- what is decided of a goal: the row that it claims, its inputs as they are checked and as the check gave
--- them, and the decision
-pub record Decided : Type 0 where
-  pub claim : Option ℕ
-  pub inputs : Pairs
-  pub checked : Pairs
-  pub decision : Decision
-
--- whether the old thing is deleted before the new one is made
-abbrev pub is_delete_first : Decision → Bool
-is_delete_first (Replace first) = not first
-is_delete_first _ = false
-
--- whether the new thing is made before the old one is deleted
-abbrev pub is_create_first : Decision → Bool
-is_create_first (Replace first) = first
-is_create_first _ = false
 
 abbrev pub is_row : Option ℕ → ℕ → Bool
 is_row None row = false

@@ -1,7 +1,7 @@
 -- What stands in the checkpoint before an operation is sent.
 use Rattle.std.specs.Prelude.{◌≡◌, ℕ, true, Contains, List, ◌∷◌, ◌++◌, Some}
 use Rattle.pl_state.specs.References.{finds_references}
-use Rattle.pl_state.specs.Sound.{IsSound}
+use Rattle.pl_sound.specs.Sound.{IsSound}
 use Rattle.pl_state.specs.declared.entry.Entry.{Entry}
 use Rattle.pl_state.specs.declared.pending.Pending.{Pending}
 use Rattle.pl_state.specs.declared.pending.PendingKind.{PendingKind}
@@ -9,7 +9,8 @@ use Rattle.pl_state.specs.declared.pending.PendingKind.TheVariants.{Creating, Up
 use Rattle.pl_state.specs.declared.snapshot.Snapshot.{Snapshot}
 use Rattle.pl_events.specs.declared.event.Event.{Event}
 use Rattle.pl_events.specs.declared.operation.Op.{Op}
-use Rattle.pl_model.specs.Run.{Fixed, Spelling}
+use Rattle.pl_model.specs.declared.fixed.Fixed.{Fixed}
+use Rattle.pl_model.specs.Run.{Spelling}
 use Rattle.pl_model.specs.History.{known_of}
 use Rattle.pl_model.specs.State.{pending_for, state_of}
 

@@ -1,11 +1,11 @@
 -- What is decided of each goal: its inputs, its checked inputs, its diff, its decision. All of it follows from
 -- the goals in their order and from the replies that came, so that what is decided once stays.
-use Rattle.std.specs.Prelude.{ℕ, ◌==◌, Bool, true, false, not, ◌&&◌, ◌||◌, if◌then◌else◌, Option, None, Some, List, [], ◌∷◌, length, find, option_map, option_and_then, slice_get, bytes_eq}
-use Rattle.std.specs.List.{cons_option, filter_map}
+use Rattle.std.specs.Prelude.{ℕ, ◌==◌, Bool, true, false, not, ◌&&◌, ◌||◌, if◌then◌else◌, Option, None, Some, List, [], ◌∷◌, length, option_map, option_and_then, slice_get, bytes_eq}
+use Rattle.std.specs.List.{cons_option}
 use Rattle.std.specs.Option.{option_or}
 use Rattle.pl_value.specs.Inside.{any_field_unknown}
 use Rattle.pl_options.specs.Ignored.{with_ignored}
-use Rattle.pl_state.specs.Chain.{provider_row_of, some_passes}
+use Rattle.pl_state.specs.Chain.{provider_row_of, rows_at, some_passes}
 use Rattle.pl_state.specs.Kinds.{is_provider_goal, is_provided, is_reading_goal, is_of_default, kin_of}
 use Rattle.pl_state.specs.declared.entry.Entry.{Entry}
 use Rattle.pl_state.specs.declared.goal.Goal.{Goal}
@@ -16,16 +16,17 @@ use Rattle.pl_events.specs.declared.operation.Subject.TheVariants as subject
 use Rattle.pl_events.specs.declared.reply.Reply.{Reply}
 use Rattle.pl_events.specs.declared.reply.Reply.TheVariants as reply
 use Rattle.pl_decide.specs.declared.decision.Decision.{Decision}
-use Rattle.pl_decide.specs.declared.decision.Decision.TheVariants.{Refused}
 use Rattle.pl_decide.specs.declared.decision.ProviderChange.{ProviderChange}
 use Rattle.pl_decide.specs.declared.decision.ProviderChange.TheVariants.{Same, BothDefault, Other}
-use Rattle.pl_decide.specs.declared.problem.Problem.{Problem}
-use Rattle.pl_decide.specs.declared.problem.Problem.TheVariants.{Protected, NotPermitted}
+use Rattle.pl_decide.specs.Limited.{final_decision}
 use Rattle.pl_decide.specs.Table.{decide, needs_diff}
-use Rattle.pl_decide.specs.Permits.{is_wanted, permits_step, permits_replaced, permits_chained}
-use Rattle.pl_model.specs.Run.{Fixed, Pairs, rows_of, is_preview}
-use Rattle.pl_model.specs.Tickets.{Closed, reply_to}
-use Rattle.pl_model.specs.Claims.{Decided, numbered, claim_for, claimed_row, claimer_of, chain_of_claim, is_claimed, is_create_first, is_delete_first, is_row}
+use Rattle.pl_decide.specs.Permits.{is_wanted}
+use Rattle.pl_model.specs.declared.decided.Decided.{Decided}
+use Rattle.pl_model.specs.declared.errand.Closed.{Closed}
+use Rattle.pl_model.specs.declared.fixed.Fixed.{Fixed}
+use Rattle.pl_model.specs.Run.{Pairs, rows_of, is_preview}
+use Rattle.pl_model.specs.Tickets.{reply_to}
+use Rattle.pl_model.specs.Claims.{numbered, claim_for, claimed_row, claimer_of, chain_of_claim, is_claimed, is_row}
 
 -- a goal at its turn: the run and the replies that came, the goals before it with what is decided of them, the
 -- goal and the row that it claims
@@ -61,14 +62,14 @@ inputs_at turn = inputs_over turn (kin_at turn)
 
 -- ---- checked inputs
 
--- the checked inputs of the goal's provider
-abbrev pub provider_checked : Turn → Option Pairs
-provider_checked turn =
-    option_map (λ one. one.checked) (option_and_then (λ number. numbered turn.before number) turn.goal.provider)
+-- whether the checked inputs of a provider, by its number, hold an unknown
+abbrev pub has_unknown_inputs : List Decided → Option ℕ → Bool
+has_unknown_inputs decided provider =
+    some_passes (λ number. some_passes (λ one. any_field_unknown one.checked) (numbered decided number)) provider
 
 -- in a preview, whether the goal's provider has inputs that are not known
 abbrev pub is_provider_unknown : Turn → Bool
-is_provider_unknown turn = is_preview turn.run.mode && some_passes any_field_unknown (provider_checked turn)
+is_provider_unknown turn = is_preview turn.run.mode && has_unknown_inputs turn.before turn.goal.provider
 
 -- whether a provider checks the goal's inputs: not those of a component or of a goal that reads, nor where the
 -- provider is not known
@@ -146,72 +147,19 @@ diff_at turn =
 
 -- ---- the decision
 
--- whether a row of a chain goes with it: nobody claims it, or it is to be deleted
-abbrev pub goes_along : Turn → ℕ × Entry → Bool
-goes_along turn row = row.1.doomed || not (is_claimed turn.before row.0 || is_row turn.claim row.0)
-
--- the rows of these numbers, each with its number
-abbrev pub rows_at : Fixed → List ℕ → List (ℕ × Entry)
-rows_at run numbers = filter_map (λ number. option_map (λ entry. (number, entry)) (slice_get (rows_of run) number)) numbers
+-- whether a goal before this one, or this one, claims the row
+abbrev pub claims_at : Turn → ℕ → Bool
+claims_at turn row = is_claimed turn.before row || is_row turn.claim row
 
 -- the rows of the claim's chain
 abbrev pub chain_at : Turn → List (ℕ × Entry)
-chain_at turn = rows_at turn.run (chain_of_claim turn.run turn.claim)
+chain_at turn = rows_at (rows_of turn.run) (chain_of_claim turn.run turn.claim)
 
--- the first row of a chain that goes with it and fails a test
-abbrev pub first_failing : Turn → (Entry → Bool) → Option Entry
-first_failing turn test =
-    option_map (λ row. row.1) (find (λ row. goes_along turn row && not (test row.1)) (chain_at turn))
-
-abbrev pub is_unprotected : Entry → Bool
-is_unprotected row = not row.protect
-
--- the refusal of a replacement by a protected row of the chain
-abbrev pub chain_refusal : Turn → Decision → Option Problem
-chain_refusal turn decision =
-    if is_delete_first decision then option_map (λ row. Protected row.urn) (first_failing turn is_unprotected) else None
-
--- what the limits say to a row of the chain
-abbrev pub permits_row : Turn → ℕ × Entry → Bool
-permits_row turn row =
-    permits_chained turn.run.limits (is_claimed turn.before row.0 || is_row turn.claim row.0) row.1.doomed row.1.urn
-
-abbrev pub first_unpermitted : Turn → Option Entry
-first_unpermitted turn = option_map (λ row. row.1) (find (λ row. not (permits_row turn row)) (chain_at turn))
-
-abbrev pub is_replacement : Decision → Bool
-is_replacement decision = is_delete_first decision || is_create_first decision
-
--- whether the limits let the claim's old thing go
-abbrev pub permits_claim : Turn → Bool
-permits_claim turn = some_passes (λ row. permits_replaced turn.run.limits row.urn) (claim_at turn)
-
--- the refusal by the limits: the goal's URN, or that of the first row where rows alone fail
-abbrev pub limit_refusal : Turn → Decision → Option Problem
-limit_refusal turn decision =
-    if not (permits_step turn.run.limits turn.goal decision) then Some (NotPermitted turn.goal.urn)
-    else (if not (is_replacement decision) then None
-    else option_or
-    (if permits_claim turn then None else option_map (λ row. NotPermitted row.urn) (claim_at turn))
-    (if is_delete_first decision then option_map (λ row. NotPermitted row.urn) (first_unpermitted turn) else None))
-
-abbrev pub refused_by : Option Problem → Decision → Decision
-refused_by None decision = decision
-refused_by (Some problem) decision = Refused problem
-
-abbrev pub is_refused : Decision → Bool
-is_refused (Refused problem) = true
-is_refused _ = false
-
--- a decision by the table, after what the chain and then the limits say to it
-abbrev pub final_decision : Turn → Decision → Decision
-final_decision turn decision =
-    if is_refused decision then decision
-    else refused_by (option_or (chain_refusal turn decision) (limit_refusal turn decision)) decision
-
+-- what the table decides, after what the chain and then the limits say to it
 abbrev pub decision_at : Turn → Pairs → Option Diffed → Decision
 decision_at turn checked diff =
-    final_decision turn (decide (claim_at turn) turn.goal (change_at turn) checked diff)
+    final_decision turn.run.limits (claim_at turn) turn.goal (claims_at turn) (chain_at turn)
+    (decide (claim_at turn) turn.goal (change_at turn) checked diff)
 
 abbrev pub decided_by : Turn → Pairs → Option Diffed → Decided
 decided_by turn checked diff = record {

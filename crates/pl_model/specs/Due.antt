@@ -22,25 +22,23 @@ use Rattle.pl_events.specs.declared.reply.Reply.{Reply}
 use Rattle.pl_events.specs.declared.reply.Reply.TheVariants as reply
 use Rattle.pl_decide.specs.declared.decision.Decision.{Decision}
 use Rattle.pl_decide.specs.declared.decision.Decision.TheVariants as decision
+use Rattle.pl_model.specs.declared.work.Work.{Work}
+use Rattle.pl_model.specs.declared.work.Work.TheVariants.{Clear as to_clear, Drop as to_drop, Keep as to_keep, Post as to_post, Send as to_send}
 use Rattle.pl_model.specs.Run.{Pairs, clears_creates, imports_of, is_preview, is_refresh, most_resources}
 use Rattle.pl_model.specs.Tickets.{is_coming, is_free, is_lost, is_out, is_source, lane_count, lane_free, lane_source, lanes_from, open_errands, reply_to, same_op, was_begun, was_configured}
 use Rattle.pl_model.specs.Recording.{has_number, posted_of}
-use Rattle.pl_model.specs.Claims.{Decided, chain_of_goal, goal_number, is_create_first, is_delete_first, is_row}
-use Rattle.pl_model.specs.Decisions.{Turn, checked_at, checked_in, is_provider_unknown, is_refused, needs_check, number_at, same_text, wants_diff}
-use Rattle.pl_model.specs.Known.{Fate, halted, refused, accepted, Asked, Known, asked_at, decided_goal, goal_at, has_problem, is_recorded, next_turn, number_of}
+use Rattle.pl_decide.specs.Limited.{is_create_first, is_delete_first, is_refused}
+use Rattle.pl_model.specs.declared.decided.Decided.{Decided}
+use Rattle.pl_model.specs.declared.heard.Fate.{Fate}
+use Rattle.pl_model.specs.declared.heard.Fate.TheVariants.{Accepted as accepted, Halted as halted, Refused as refused}
+use Rattle.pl_model.specs.declared.heard.Heard.{Heard}
+use Rattle.pl_model.specs.Claims.{chain_of_goal, goal_number, is_row}
+use Rattle.pl_model.specs.Decisions.{Turn, checked_at, checked_in, has_unknown_inputs, is_provider_unknown, needs_check, number_at, same_text, wants_diff}
+use Rattle.pl_model.specs.Known.{Known, asked_at, decided_goal, goal_at, has_problem, is_recorded, next_turn, number_of}
 use Rattle.pl_model.specs.Entries.{old_row}
 use Rattle.pl_model.specs.Problems.{is_creating, is_to_read, pending_create}
 use Rattle.pl_model.specs.Rows.{has_dependents, is_doomed, is_left, is_marked, is_sent, was_removed, pending_at, row_at, row_numbers, source_of_goal, source_of_pending, source_of_row}
 use Rattle.pl_model.specs.State.{entries_now, is_cleared, pending_of}
-
--- what the engine may do: answer a request, keep a goal, let a pending operation go, drop a row, or send an
--- operation
-pub data Work : Type 0 where
-  to_post : ℕ → Work
-  to_keep : ℕ → Work
-  to_clear : ℕ → Work
-  to_drop : ℕ → Work
-  to_send : Op → Work
 
 abbrev pub goal_numbers : Known → List ℕ
 goal_numbers known = range_with_len 0 (length known.goals)
@@ -79,8 +77,7 @@ is_placed known number goal one =
 -- in a preview, whether the goal's provider has inputs that are not known
 abbrev pub has_unknown_provider : Known → Goal → Bool
 has_unknown_provider known goal =
-    is_preview known.run.mode
-    && some_passes (λ number. some_passes (λ one. any_field_unknown one.checked) (decided_goal known number)) goal.provider
+    is_preview known.run.mode && has_unknown_inputs known.decided goal.provider
 
 -- the operation by which a decision is carried out, if it takes one
 abbrev pub op_of_decision : ℕ → Decision → Option Op
@@ -184,9 +181,7 @@ is_clear_ready known at =
 -- known
 abbrev pub is_unsent : Known → Request → Option ℕ → Bool
 is_unsent known (Invoke n token args provider version) about =
-    is_preview known.run.mode
-    && (any_field_unknown args
-    || some_passes (λ number. some_passes (λ one. any_field_unknown one.checked) (decided_goal known number)) about)
+    is_preview known.run.mode && (any_field_unknown args || has_unknown_inputs known.decided about)
 is_unsent known _ about = false
 
 abbrev pub is_result : Option Reply → Bool
@@ -204,12 +199,12 @@ has_result known (Invoke n token args provider version) about =
     is_result (reply_to known.answers (op.Invoke n)) || is_unsent known (Invoke n token args provider version) about
 
 -- whether a request has all that its answer needs: it is refused, or it is accepted and has its result
-abbrev pub is_settled_fate : Known → Asked → Fate → Bool
+abbrev pub is_settled_fate : Known → Heard → Fate → Bool
 is_settled_fate known asked halted = false
 is_settled_fate known asked (refused problem) = true
 is_settled_fate known asked accepted = has_result known asked.request asked.about
 
-abbrev pub is_settled_request : Known → Asked → Bool
+abbrev pub is_settled_request : Known → Heard → Bool
 is_settled_request known asked = is_settled_fate known asked asked.fate
 
 abbrev pub has_open : Known → Bool

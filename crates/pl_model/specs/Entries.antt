@@ -18,9 +18,11 @@ use Rattle.pl_events.specs.declared.reply.Reply.TheVariants as reply
 use Rattle.pl_decide.specs.declared.decision.Decision.{Decision}
 use Rattle.pl_decide.specs.declared.decision.Decision.TheVariants as decision
 use Rattle.pl_model.specs.Run.{Pairs}
-use Rattle.pl_model.specs.Tickets.{Closed, closed_by}
+use Rattle.pl_model.specs.declared.decided.Decided.{Decided}
+use Rattle.pl_model.specs.declared.errand.Closed.{Closed}
+use Rattle.pl_model.specs.Tickets.{closed_by}
 use Rattle.pl_model.specs.Recording.{has_number, only_if, recorded_by_reply, recorded_of}
-use Rattle.pl_model.specs.Claims.{Decided, claimed_row, first_some, id_of_row, kept_provider_id}
+use Rattle.pl_model.specs.Claims.{claimed_row, first_some, id_of_row, kept_provider_id}
 use Rattle.pl_model.specs.Known.{Known, claim_row, decided_goal, goal_at, provider_id}
 use Rattle.pl_model.specs.Planned.{planned_outputs}
 use Rattle.pl_model.specs.Rows.{is_marked, is_to_be_made, left_rows, row_at}
@@ -111,7 +113,7 @@ abbrev pub is_read_only : Decision → Bool
 is_read_only decision.ReadOnly = true
 is_read_only _ = false
 
--- the reference to a provider that is recorded
+-- the reference to a provider, by its number: its URN and its id, once it has an id
 abbrev pub reference_to : Known → ℕ → Option ProviderRef
 reference_to known provider =
     option_and_then (λ goal. option_map (λ id. record { urn = goal.urn; id = id }) (provider_id known provider))

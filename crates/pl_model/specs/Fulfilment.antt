@@ -2,7 +2,7 @@
 use Rattle.std.specs.Prelude.{◌≡◌, ℕ, ◌<◌, Contains, List, [], length}
 use Rattle.pl_state.specs.declared.snapshot.Snapshot.{Snapshot}
 use Rattle.pl_events.specs.declared.event.Event.{Event}
-use Rattle.pl_model.specs.Run.{Fixed}
+use Rattle.pl_model.specs.declared.fixed.Fixed.{Fixed}
 use Rattle.pl_model.specs.Entries.{new_entries}
 use Rattle.pl_model.specs.History.{known_of}
 use Rattle.pl_model.specs.Known.{Known}

@@ -6,8 +6,9 @@ use Rattle.pl_events.specs.declared.event.What.{What}
 use Rattle.pl_events.specs.declared.event.What.TheVariants.{Told}
 use Rattle.pl_decide.specs.declared.problem.Problem.{Problem}
 use Rattle.pl_decide.specs.declared.problem.Problem.TheVariants.{NoMemory}
-use Rattle.pl_model.specs.Run.{Fixed}
-use Rattle.pl_model.specs.Known.{Asked, Known, known_by}
+use Rattle.pl_model.specs.declared.fixed.Fixed.{Fixed}
+use Rattle.pl_model.specs.declared.heard.Heard.{Heard}
+use Rattle.pl_model.specs.Known.{Known, known_by}
 use Rattle.pl_model.specs.Requests.{asked_by, fate_of, goals_by}
 use Rattle.pl_model.specs.Problems.{at_position, problems_at, start_problems}
 
@@ -17,7 +18,7 @@ goals_after before (Told request) = goals_by before request (fate_of before requ
 goals_after before _ = before.goals
 
 -- the told requests after an event
-abbrev pub asked_after : Known → What → List Asked
+abbrev pub asked_after : Known → What → List Heard
 asked_after before (Told request) = asked_by before request (fate_of before request) ∷ before.asked
 asked_after before _ = before.asked
 

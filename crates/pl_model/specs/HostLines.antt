@@ -9,7 +9,8 @@ use Rattle.pl_events.specs.declared.event.HostEnd.TheVariants.{Success, Error, E
 use Rattle.pl_events.specs.declared.event.Request.{Request}
 use Rattle.pl_events.specs.declared.event.What.{What}
 use Rattle.pl_events.specs.declared.event.What.TheVariants.{Told, HostGone, Posted}
-use Rattle.pl_model.specs.Run.{Fixed, Spelling}
+use Rattle.pl_model.specs.declared.fixed.Fixed.{Fixed}
+use Rattle.pl_model.specs.Run.{Spelling}
 use Rattle.pl_model.specs.Recording.{has_number, posted_of}
 use Rattle.pl_model.specs.Due.{is_post_due}
 use Rattle.pl_model.specs.Frames.{Causes, IsBad, IsBadFrame, IsBadLength, IsFrameOf, IsLonger}

@@ -10,24 +10,17 @@ use Rattle.pl_events.specs.declared.event.Request.{Request}
 use Rattle.pl_events.specs.declared.event.Request.TheVariants.{Register, Outputs, Invoke}
 use Rattle.pl_decide.specs.declared.decision.Decision.{Decision}
 use Rattle.pl_decide.specs.declared.problem.Problem.{Problem}
-use Rattle.pl_model.specs.Run.{Fixed, Pairs, has_host}
-use Rattle.pl_model.specs.Tickets.{Closed, answers_of}
+use Rattle.pl_model.specs.declared.heard.Fate.{Fate}
+use Rattle.pl_model.specs.declared.heard.Fate.TheVariants.{Accepted as accepted, Halted as halted, Refused as refused}
+use Rattle.pl_model.specs.declared.heard.Heard.{Heard}
+use Rattle.pl_model.specs.declared.decided.Decided.{Decided}
+use Rattle.pl_model.specs.declared.errand.Closed.{Closed}
+use Rattle.pl_model.specs.declared.fixed.Fixed.{Fixed}
+use Rattle.pl_model.specs.Run.{Pairs, has_host}
+use Rattle.pl_model.specs.Tickets.{answers_of}
 use Rattle.pl_model.specs.Recording.{recorded_of, fresh_of, has_number}
-use Rattle.pl_model.specs.Claims.{Decided, numbered, claimed_row, kept_provider_id}
+use Rattle.pl_model.specs.Claims.{numbered, claimed_row, kept_provider_id}
 use Rattle.pl_model.specs.Decisions.{Turn, checked_at, decided_of, inputs_at, number_at, turn_in}
-
--- what becomes of a told request: a problem before it halts it, or it is refused, or it is accepted
-pub data Fate : Type 0 where
-  halted : Fate
-  refused : Problem → Fate
-  accepted : Fate
-
--- a told request with its fate, and the number of the goal that it is about, if it is accepted: the one that
--- it makes, the component whose outputs it tells, or the provider that it invokes
-pub record Asked : Type 0 where
-  pub request : Request
-  pub fate : Fate
-  pub about : Option ℕ
 
 -- what a history tells; goals, decisions, answers and requests stand newest first, problems in order, each with
 -- its position
@@ -37,10 +30,10 @@ pub record Known : Type 0 where
   pub answers : List Closed
   pub goals : List Goal
   pub decided : List Decided
-  pub asked : List Asked
+  pub asked : List Heard
   pub problems : List (ℕ × Problem)
 
-abbrev pub known_with : Fixed → List Event → List Closed → List Goal → List Asked → List (ℕ × Problem) → Known
+abbrev pub known_with : Fixed → List Event → List Closed → List Goal → List Heard → List (ℕ × Problem) → Known
 known_with run history answers goals asked problems = record {
   run = run;
   history = history;
@@ -52,7 +45,7 @@ known_with run history answers goals asked problems = record {
 }
 
 -- what a history of these goals tells
-abbrev pub known_by : Fixed → List Event → List Goal → List Asked → List (ℕ × Problem) → Known
+abbrev pub known_by : Fixed → List Event → List Goal → List Heard → List (ℕ × Problem) → Known
 known_by run history goals asked problems = known_with run history (answers_of history) goals asked problems
 
 -- whether a problem stands
@@ -104,7 +97,8 @@ decision_of known goal = option_map (λ one. one.decision) (decided_goal known g
 abbrev pub claim_row : Known → ℕ → Option Entry
 claim_row known goal = claimed_row known.run (claim_of known goal)
 
--- the id of a provider that is recorded: its claim's if that is usable, or else the one made of its number
+-- the id of a provider: its claim's if that is usable, or else the one made of the number that its keep carries, once
+-- it is kept
 abbrev pub provider_id : Known → ℕ → Option (List ℕ)
 provider_id known goal = kept_provider_id (claim_row known goal) (fresh_of known.history goal)
 
@@ -127,5 +121,5 @@ number_of (Outputs n urn outputs) = n
 number_of (Invoke n token args provider version) = n
 
 -- the told request of a number
-abbrev pub asked_at : Known → ℕ → Option Asked
+abbrev pub asked_at : Known → ℕ → Option Heard
 asked_at known n = find (λ asked. number_of asked.request == n) known.asked

@@ -11,8 +11,10 @@ use Rattle.pl_events.specs.declared.operation.Op.{Op}
 use Rattle.pl_events.specs.declared.reply.Loss.{Loss}
 use Rattle.pl_events.specs.declared.reply.Loss.TheVariants as loss
 use Rattle.pl_events.specs.declared.reply.Reply.{Reply}
-use Rattle.pl_model.specs.Run.{Fixed, Spelling}
-use Rattle.pl_model.specs.Tickets.{Errand, errand_at, loses}
+use Rattle.pl_model.specs.declared.errand.Errand.{Errand}
+use Rattle.pl_model.specs.declared.fixed.Fixed.{Fixed}
+use Rattle.pl_model.specs.Run.{Spelling}
+use Rattle.pl_model.specs.Tickets.{errand_at, loses}
 use Rattle.pl_model.specs.Asked.{ask_of, call_of}
 use Rattle.pl_model.specs.Covers.{cover_of}
 use Rattle.pl_model.specs.Frames.{Causes, IsBad, IsBadFrame, IsBadLength, IsFrameOf, IsLonger}

@@ -1,6 +1,6 @@
 -- How much work is left: a number that falls with what is begun, kept, dropped, cleared and posted, and that only a
 -- told request raises.
-use Rattle.std.specs.Prelude.{ℕ, ◌+◌, ◌-◌, Bool, not, List, ◌++◌, filter, length, map}
+use Rattle.std.specs.Prelude.{ℕ, ◌+◌, ◌-◌, not, List, ◌++◌, filter, length, map}
 use Rattle.std.specs.List.{sum_by}
 use Rattle.pl_events.specs.declared.event.Event.{Event}
 use Rattle.pl_events.specs.declared.operation.Op.{Op}

@@ -2,6 +2,7 @@ pub mod Run
 pub mod Tickets
 pub mod Recording
 pub mod Claims
+pub mod RunData
 pub mod Decisions
 pub mod Known
 pub mod Requests
@@ -19,6 +20,7 @@ pub mod Asked
 pub mod Posts
 pub mod Legal
 pub mod Saves
+pub mod Step
 pub mod Covers
 pub mod Fulfilment
 pub mod Plan

@@ -1,5 +1,5 @@
 -- The outcome that the problems of a history give.
-use Rattle.std.specs.Prelude.{ℕ, Option, None, Some, List, option_and_then}
+use Rattle.std.specs.Prelude.{ℕ, Option, None, Some, option_and_then}
 use Rattle.pl_decide.specs.declared.outcome.Outcome.{Outcome}
 use Rattle.pl_decide.specs.declared.outcome.Outcome.TheVariants as outcome
 use Rattle.pl_decide.specs.declared.problem.Problem.{Problem}

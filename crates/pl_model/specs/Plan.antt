@@ -1,15 +1,16 @@
 -- The plan of a history: a step for each goal, and one for each row that is to be deleted.
 use Rattle.std.specs.Prelude.{ℕ, Bool, not, ◌&&◌, ◌||◌, if◌then◌else◌, Option, None, Some, List, ◌∷◌, ◌++◌, ◌-◌, drop, length, reverse, option_and_then}
 use Rattle.std.specs.List.{filter_map, list_any}
-use Rattle.pl_state.specs.Chain.{some_passes}
+use Rattle.pl_state.specs.Chain.{goes_along, some_passes}
 use Rattle.pl_state.specs.References.{has_urn}
 use Rattle.pl_state.specs.declared.entry.Entry.{Entry}
 use Rattle.pl_state.specs.declared.goal.Goal.{Goal}
 use Rattle.pl_events.specs.declared.event.Event.{Event}
 use Rattle.pl_decide.specs.Permits.{delete_replaced_step, delete_step, step_name}
-use Rattle.pl_model.specs.Run.{Fixed}
-use Rattle.pl_model.specs.Claims.{Decided, claimed_row, claimer_of, is_chained, is_claimed}
-use Rattle.pl_model.specs.Decisions.{is_refused, is_replacement}
+use Rattle.pl_model.specs.declared.decided.Decided.{Decided}
+use Rattle.pl_model.specs.declared.fixed.Fixed.{Fixed}
+use Rattle.pl_model.specs.Claims.{claimed_row, claimer_of, is_chained, is_claimed}
+use Rattle.pl_decide.specs.Limited.{is_refused, is_replacement}
 use Rattle.pl_model.specs.Due.{goal_numbers}
 use Rattle.pl_model.specs.History.{known_of}
 use Rattle.pl_model.specs.Known.{Known, decided_goal, goal_at}
@@ -57,7 +58,7 @@ is_to_be_replaced known row =
 -- whether a row is to be deleted: it is marked, nobody claims it, or its goal is replaced
 abbrev pub is_to_be_deleted : Known → ℕ → Entry → Bool
 is_to_be_deleted known row entry =
-    entry.doomed || not (is_claimed known.decided row) || is_to_be_replaced known row
+    goes_along (is_claimed known.decided) (row, entry) || is_to_be_replaced known row
 
 -- the name of a row's step: a row that was marked, replaced or taken by a chain has another than one that is only
 -- no longer wanted

@@ -16,7 +16,10 @@ use Rattle.pl_model.specs.Tickets.{reply_to}
 use Rattle.pl_model.specs.Recording.{has_number, posted_of}
 use Rattle.pl_model.specs.Due.{is_recorded_about, is_unsent}
 use Rattle.pl_model.specs.Entries.{entry_of}
-use Rattle.pl_model.specs.Known.{Fate, halted, refused, accepted, Asked, Known, asked_at, has_problem}
+use Rattle.pl_model.specs.declared.heard.Fate.{Fate}
+use Rattle.pl_model.specs.declared.heard.Fate.TheVariants.{Accepted as accepted, Halted as halted, Refused as refused}
+use Rattle.pl_model.specs.declared.heard.Heard.{Heard}
+use Rattle.pl_model.specs.Known.{Known, asked_at, has_problem}
 
 -- the name of a refusal, by which the host is told of it
 abbrev pub refusal_name : Problem → List ℕ
@@ -50,12 +53,12 @@ result_of known (Invoke n token args provider version) about =
     if is_unsent known (Invoke n token args provider version) about then Result []
     else answer_or (result_in (reply_to known.answers (op.Invoke n)))
 
-abbrev pub answer_by : Known → Asked → Fate → Answer
+abbrev pub answer_by : Known → Heard → Fate → Answer
 answer_by known asked halted = unanswered.halted
 answer_by known asked (refused trouble) = Refused (refusal_name trouble)
 answer_by known asked accepted = result_of known asked.request asked.about
 
-abbrev pub answer_for : Known → Option Asked → Answer
+abbrev pub answer_for : Known → Option Heard → Answer
 answer_for known None = unanswered.halted
 answer_for known (Some asked) = answer_by known asked asked.fate
 

@@ -30,11 +30,17 @@ use Rattle.pl_decide.specs.declared.decision.Decision.TheVariants.{Refused}
 use Rattle.pl_decide.specs.declared.problem.Child.TheVariants.{Host, Lane}
 use Rattle.pl_decide.specs.declared.problem.Problem.{Problem}
 use Rattle.pl_decide.specs.declared.problem.Problem.TheVariants as problem
-use Rattle.pl_model.specs.Run.{Fixed, imports_of, is_destroy, is_refresh, rows_of}
-use Rattle.pl_model.specs.Tickets.{Closed, closed_by, errand_at}
+use Rattle.pl_model.specs.declared.decided.Decided.{Decided}
+use Rattle.pl_model.specs.declared.errand.Closed.{Closed}
+use Rattle.pl_model.specs.declared.fixed.Fixed.{Fixed}
+use Rattle.pl_model.specs.declared.heard.Fate.{Fate}
+use Rattle.pl_model.specs.declared.heard.Fate.TheVariants.{Refused as refused}
+use Rattle.pl_model.specs.Run.{imports_of, is_destroy, is_refresh, rows_of}
+use Rattle.pl_model.specs.Tickets.{closed_by, errand_at}
 use Rattle.pl_model.specs.Recording.{has_number}
-use Rattle.pl_model.specs.Claims.{Decided, chain_of_goal, claimer_of, first_some, is_create_first}
-use Rattle.pl_model.specs.Known.{Fate, refused, Known, decided_goal, goal_at, has_problem, is_over, known_by}
+use Rattle.pl_decide.specs.Limited.{is_create_first}
+use Rattle.pl_model.specs.Claims.{chain_of_goal, claimer_of, first_some}
+use Rattle.pl_model.specs.Known.{Known, decided_goal, goal_at, has_problem, is_over, known_by}
 use Rattle.pl_state.specs.References.{option_list}
 use Rattle.pl_model.specs.Requests.{fate_of, first_in}
 use Rattle.pl_model.specs.Rows.{is_doomed, is_left, is_sent, pending_at, row_at, row_numbers, takes_along}

@@ -11,7 +11,8 @@ use Rattle.pl_events.specs.declared.operation.Subject.{Subject}
 use Rattle.pl_events.specs.declared.operation.Subject.TheVariants as subject
 use Rattle.pl_events.specs.declared.reply.Reply.{Reply}
 use Rattle.pl_events.specs.declared.reply.Reply.TheVariants.{Made, MadePartly, Changed, ChangedPartly, Removed, Found, Gone}
-use Rattle.pl_model.specs.Tickets.{Closed, closed_by}
+use Rattle.pl_model.specs.declared.errand.Closed.{Closed}
+use Rattle.pl_model.specs.Tickets.{closed_by}
 
 -- whether a reply says that a thing is there, made, changed or found
 abbrev pub is_thing : Reply → Bool

@@ -22,7 +22,10 @@ use Rattle.pl_decide.specs.declared.problem.Problem.{Problem}
 use Rattle.pl_decide.specs.declared.problem.Problem.TheVariants.{BadOption, UnknownReference, DuplicateUrn, OutputsOfCustom}
 use Rattle.pl_model.specs.Run.{Pairs, rows_of}
 use Rattle.pl_model.specs.Claims.{goal_number}
-use Rattle.pl_model.specs.Known.{Fate, halted, refused, accepted, Asked, Known, has_problem, goal_at, is_recorded, provider_id}
+use Rattle.pl_model.specs.declared.heard.Fate.{Fate}
+use Rattle.pl_model.specs.declared.heard.Fate.TheVariants.{Accepted as accepted, Halted as halted, Refused as refused}
+use Rattle.pl_model.specs.declared.heard.Heard.{Heard}
+use Rattle.pl_model.specs.Known.{Known, has_problem, goal_at, is_recorded, provider_id}
 
 abbrev pub fate_by : Option Problem → Fate
 fate_by None = accepted
@@ -208,6 +211,6 @@ about_of known (Outputs n urn outputs) = goal_number known.goals urn
 about_of known (Invoke n token args provider version) =
     invoked_provider known token (given provider) (invoked_version version)
 
-abbrev pub asked_by : Known → Request → Fate → Asked
+abbrev pub asked_by : Known → Request → Fate → Heard
 asked_by known request accepted = record { request = request; fate = accepted; about = about_of known request }
 asked_by known request fate = record { request = request; fate = fate; about = None }

@@ -2,7 +2,7 @@
 -- provided for.
 use Rattle.std.specs.Prelude.{ℕ, Bool, not, ◌&&◌, ◌||◌, nat_lt, Option, None, Some, List, length, filter, option_map, option_and_then, slice_get}
 use Rattle.std.specs.List.{list_any, range_with_len}
-use Rattle.pl_state.specs.Chain.{deleter_row_of, last_provider, provider_row_of, refers_to, some_passes}
+use Rattle.pl_state.specs.Chain.{deleter_row_of, goes_along, last_provider, provider_row_of, refers_to, some_passes}
 use Rattle.pl_state.specs.Kinds.{is_provided_row}
 use Rattle.pl_state.specs.declared.entry.Entry.{Entry}
 use Rattle.pl_state.specs.declared.pending.Pending.{Pending}
@@ -11,7 +11,9 @@ use Rattle.pl_events.specs.declared.operation.Source.TheVariants as source
 use Rattle.pl_decide.specs.Permits.{is_wanted}
 use Rattle.pl_model.specs.Run.{rows_of, is_destroy, is_refresh}
 use Rattle.pl_model.specs.Recording.{has_number, only_if, removed_of}
-use Rattle.pl_model.specs.Claims.{Decided, chain_of_goal, claimer_of, is_claimed, is_create_first, is_delete_first, is_row}
+use Rattle.pl_decide.specs.Limited.{is_create_first, is_delete_first}
+use Rattle.pl_model.specs.declared.decided.Decided.{Decided}
+use Rattle.pl_model.specs.Claims.{chain_of_goal, claimer_of, is_claimed, is_row}
 use Rattle.pl_model.specs.Known.{Known, decided_goal, goal_at, is_over, is_recorded}
 
 abbrev pub row_at : Known → ℕ → Option Entry
@@ -71,13 +73,18 @@ is_marked known row = some_passes (λ entry. entry.doomed) (row_at known row) ||
 abbrev pub is_to_be_made : Known → ℕ → Bool
 is_to_be_made known row = some_passes (λ entry. entry.pending_replacement) (row_at known row) || is_held known row
 
--- whether a goal that is deleted first takes the row along: it is the goal's claim, or it is in its chain and
--- nobody claims it or it is marked
+-- whether a row of a chain goes along now, marked as it is
+abbrev pub goes_now : Known → ℕ → Bool
+goes_now known row =
+    some_passes (λ entry. goes_along (is_claimed known.decided) (row, record entry { doomed = is_marked known row }))
+    (row_at known row)
+
+-- whether a goal that is deleted first takes the row along: it is the goal's claim, or it is in its chain and goes
+-- along with it
 abbrev pub takes_along : Known → ℕ → Decided → Bool
 takes_along known row one =
     is_delete_first one.decision
-    && (is_row one.claim row
-    || (has_number (chain_of_goal known.run one) row && (not (is_claimed known.decided row) || is_marked known row)))
+    && (is_row one.claim row || (has_number (chain_of_goal known.run one) row && goes_now known row))
 
 -- in a run that deletes everything, whether the limits leave the row to be deleted
 abbrev pub is_target : Known → ℕ → Bool

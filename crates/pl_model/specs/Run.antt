@@ -10,23 +10,13 @@ use Rattle.pl_events.specs.declared.event.Answer.{Answer}
 use Rattle.pl_events.specs.declared.operation.Ask.{Ask}
 use Rattle.pl_events.specs.declared.operation.Call.{Call}
 use Rattle.pl_events.specs.declared.reply.Reply.{Reply}
-use Rattle.pl_decide.specs.declared.limits.Limits.{Limits}
+use Rattle.pl_model.specs.declared.fixed.Fixed.{Fixed}
 use Rattle.pl_model.specs.declared.mode.Mode.{Mode}
 use Rattle.pl_model.specs.declared.mode.Mode.TheVariants.{Up, Preview, Destroy, Refresh}
 
 -- the fields of an object, in rising order of their keys
 abbrev pub Pairs : Type 0
 Pairs = List (List ℕ × Value)
-
--- what a run is over: the state at the start, what it is to do, what it may do, how many children of one
--- provider it may have, and the names of its stack and project
-pub record Fixed : Type 0 where
-  pub base : Snapshot
-  pub mode : Mode
-  pub limits : Limits
-  pub parallel : ℕ
-  pub stack : List ℕ
-  pub project : List ℕ
 
 -- how messages and states are spelled
 pub record Spelling : Type 0 where

@@ -10,13 +10,17 @@ use Rattle.pl_events.specs.declared.event.Request.TheVariants.{Outputs}
 use Rattle.pl_events.specs.declared.event.Stop.TheVariants.{StoreFault, NoMemory}
 use Rattle.pl_events.specs.declared.operation.Op.{Op}
 use Rattle.pl_events.specs.declared.operation.Op.TheVariants as op
-use Rattle.pl_model.specs.Run.{Fixed, Spelling, is_preview}
-use Rattle.pl_model.specs.Tickets.{Closed, closed_by}
+use Rattle.pl_model.specs.declared.errand.Closed.{Closed}
+use Rattle.pl_model.specs.declared.fixed.Fixed.{Fixed}
+use Rattle.pl_model.specs.declared.heard.Fate.{Fate}
+use Rattle.pl_model.specs.declared.heard.Fate.TheVariants.{Accepted as accepted}
+use Rattle.pl_model.specs.Run.{Spelling, is_preview}
+use Rattle.pl_model.specs.Tickets.{closed_by}
 use Rattle.pl_model.specs.Recording.{is_gone, is_thing}
 use Rattle.pl_model.specs.Claims.{goal_number}
 use Rattle.pl_model.specs.Due.{is_due_on, is_recorded_about}
 use Rattle.pl_model.specs.History.{known_of}
-use Rattle.pl_model.specs.Known.{Fate, accepted, Known}
+use Rattle.pl_model.specs.Known.{Known}
 use Rattle.pl_model.specs.Problems.{reads_row}
 use Rattle.pl_model.specs.Requests.{fate_of}
 use Rattle.pl_model.specs.State.{state_of}
@@ -32,8 +36,8 @@ abbrev pub is_read : Op → Bool
 is_read (op.Read about) = true
 is_read _ = false
 
--- whether a reply changes the state: any to an operation that changes a thing, an error too; one that records a
--- goal; one to the reading of a row or of a pending creation that found something, or nothing
+-- whether a reply changes the state: any to an operation that changes a thing, an error too; one to a reading that
+-- says that a thing is there; one to the reading of a row that says that the thing is gone
 abbrev pub closes_saved : Closed → Bool
 closes_saved closed =
     is_covered closed.op || (is_read closed.op && (is_thing closed.reply || (reads_row closed.op && is_gone closed.reply)))

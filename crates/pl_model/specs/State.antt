@@ -18,10 +18,14 @@ use Rattle.pl_events.specs.declared.operation.Op.TheVariants as op
 use Rattle.pl_events.specs.declared.operation.Subject.TheVariants as subject
 use Rattle.pl_events.specs.declared.reply.Reply.{Reply}
 use Rattle.pl_events.specs.declared.reply.Reply.TheVariants as reply
-use Rattle.pl_model.specs.Run.{Fixed, is_refresh, rows_of}
-use Rattle.pl_model.specs.Tickets.{Closed, reply_to}
+use Rattle.pl_model.specs.declared.errand.Opened.{Opened}
+use Rattle.pl_model.specs.declared.decided.Decided.{Decided}
+use Rattle.pl_model.specs.declared.errand.Closed.{Closed}
+use Rattle.pl_model.specs.declared.fixed.Fixed.{Fixed}
+use Rattle.pl_model.specs.Run.{is_refresh, rows_of}
+use Rattle.pl_model.specs.Tickets.{reply_to}
 use Rattle.pl_model.specs.Recording.{cleared_of, goal_in, has_number, row_in}
-use Rattle.pl_model.specs.Claims.{Decided, claimed_row, id_of_row}
+use Rattle.pl_model.specs.Claims.{claimed_row, id_of_row}
 use Rattle.pl_model.specs.Known.{Known, decided_goal, goal_at}
 use Rattle.pl_model.specs.Entries.{goal_entry, new_entries, old_entries, old_row, outputs_of_row, result_with}
 use Rattle.pl_model.specs.Rows.{pending_at}
@@ -54,11 +58,6 @@ pending_for known (op.Create about) = pending_with Creating (option_and_then (cr
 pending_for known (op.Update about) = pending_with Updating (option_and_then (updating_entry known) (goal_in about))
 pending_for known (op.Delete about) = pending_with Deleting (option_and_then (old_row known) (row_in about))
 pending_for known _ = None
-
--- a pending operation with the ticket of what opened it
-pub record Opened : Type 0 where
-  pub ticket : ℕ
-  pub pending : Pending
 
 abbrev pub opened_by : Known → What → Option Opened
 opened_by before (Begun ticket lane about) =

@@ -14,6 +14,8 @@ use Rattle.pl_events.specs.declared.operation.Source.{Source}
 use Rattle.pl_events.specs.declared.operation.Source.TheVariants as source
 use Rattle.pl_events.specs.declared.reply.Reply.{Reply}
 use Rattle.pl_events.specs.declared.reply.Reply.TheVariants.{Configured}
+use Rattle.pl_model.specs.declared.errand.Closed.{Closed}
+use Rattle.pl_model.specs.declared.errand.Errand.{Errand}
 
 abbrev pub same_subject : Subject → Subject → Bool
 same_subject (subject.Goal a) (subject.Goal b) = a == b
@@ -37,13 +39,6 @@ same_op (op.Delete a) (op.Delete b) = same_subject a b
 same_op (op.Read a) (op.Read b) = same_subject a b
 same_op (op.Invoke a) (op.Invoke b) = a == b
 same_op _ _ = false
-
--- an operation that was begun: its ticket, the seat that began it, and the lane that it was sent to
-pub record Errand : Type 0 where
-  pub ticket : ℕ
-  pub seat : ℕ
-  pub lane : ℕ
-  pub op : Op
 
 abbrev pub errand_by : ℕ → What → Option Errand
 errand_by seat (Begun ticket lane op) = Some (record { ticket = ticket; seat = seat; lane = lane; op = op })
@@ -90,11 +85,6 @@ open_errands history = filter (λ errand. not (is_closed history errand.ticket))
 
 abbrev pub is_open : List Event → ℕ → Bool
 is_open history ticket = list_any (λ errand. errand.ticket == ticket) (open_errands history)
-
--- an operation that was answered, with its reply
-pub record Closed : Type 0 where
-  pub op : Op
-  pub reply : Reply
 
 -- what an event answers, by the history before it
 abbrev pub closed_by : List Event → What → Option Closed

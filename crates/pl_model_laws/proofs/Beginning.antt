@@ -14,17 +14,22 @@ use Rattle.pl_events.specs.declared.event.What.{What}
 use Rattle.pl_events.specs.declared.event.What.TheVariants.{Answered, Begun, Kept}
 use Rattle.pl_events.specs.declared.operation.Op.{Op}
 use Rattle.pl_decide.specs.declared.problem.Problem.{Problem}
-use Rattle.pl_model.specs.Run.{Fixed, Spelling, is_refresh}
-use Rattle.pl_model.specs.Tickets.{Closed, Errand, answers_of, begun_of, closed_by, errand_at, errand_of, is_open, next_ticket, same_op}
+use Rattle.pl_model.specs.declared.decided.Decided.{Decided}
+use Rattle.pl_model.specs.declared.errand.Closed.{Closed}
+use Rattle.pl_model.specs.declared.errand.Errand.{Errand}
+use Rattle.pl_model.specs.declared.errand.Opened.{Opened}
+use Rattle.pl_model.specs.declared.fixed.Fixed.{Fixed}
+use Rattle.pl_model.specs.Run.{is_refresh}
+use Rattle.pl_model.specs.Tickets.{answers_of, begun_of, closed_by, errand_at, errand_of, is_open, next_ticket, same_op}
 use Rattle.pl_model.specs.Recording.{fresh_of, recorded_of}
-use Rattle.pl_model.specs.Claims.{Decided, id_of_row, usable_id}
+use Rattle.pl_model.specs.Claims.{id_of_row, usable_id}
 use Rattle.pl_model.specs.Decisions.{decided_of}
 use Rattle.pl_model.specs.Known.{Known, claim_row, decided_goal, goal_at, provider_id}
 use Rattle.pl_model.specs.Rows.{is_left, is_marked}
 use Rattle.pl_model.specs.Entries.{Result, entry_of, goal_entry, new_entries, old_entries, old_row, recorded_entry, recording_of, reference_to, result_answered, result_by, result_from, result_kept, told_outputs, with_outputs}
-use Rattle.pl_model.specs.State.{Opened, base_pending, entries_now, is_answered, opened_of, own_pending, pending_for, refreshed_entries, state_of, was_answered}
+use Rattle.pl_model.specs.State.{base_pending, entries_now, is_answered, opened_of, own_pending, pending_for, refreshed_entries, state_of, was_answered}
 use Rattle.pl_model.specs.History.{known_of}
-use Rattle.pl_model.specs.Legal.{IsLegal, MayHappen, is_seats}
+use Rattle.pl_model.specs.Legal.{IsOrderly, MayHappen, is_seats}
 use Rattle.pl_model_laws.proofs.Growing.{decided_as, equal_numbers, run_of}
 use Rattle.pl_model_laws.proofs.Once.{and_left, and_right, history_of}
 use Rattle.pl_model_laws.proofs.Standing.{answers_as, or_none}
@@ -233,8 +238,8 @@ errand_has history ticket errand h =
     (λ one both. and_left (one.ticket == ticket) (same_op one.op errand.op) both) (begun_of history)
     (errand_sent history ticket errand h)
 
-module _ (run : Fixed) (spelling : Spelling) (ticket : ℕ) where
-  below_step : (seat : ℕ) (past : List Event) (what : What) → MayHappen spelling (known_of run past) seat what
+module _ (run : Fixed) (ticket : ℕ) where
+  below_step : (seat : ℕ) (past : List Event) (what : What) → MayHappen (known_of run past) seat what
       → (has_ticket past ticket ≡ true → ticket < next_ticket past)
       → has_ticket (event_of seat what ∷ past) ticket ≡ true → ticket < next_ticket (event_of seat what ∷ past)
   below_step seat past (Begun begun lane about) may rest h = by (begun == ticket) refl h
@@ -249,11 +254,11 @@ module _ (run : Fixed) (spelling : Spelling) (ticket : ℕ) where
       by false is h = let less : ticket < next_ticket past = rest h in omega arith
   below_step seat past _ may rest h = rest h
 
-  -- the tickets of a legal history are below the next one
-  ticket_below : (history : List Event) → IsLegal run spelling history → has_ticket history ticket ≡ true
+  -- the tickets of an orderly history are below the next one
+  ticket_below : (history : List Event) → IsOrderly run history → has_ticket history ticket ≡ true
       → ticket < next_ticket history
-  ticket_below [] legal h = absurd (let e : false ≡ true = h in cc)
-  ticket_below (event ∷ past) legal h = below_step event.seat past event.what legal.1 (ticket_below past legal.0) h
+  ticket_below [] orderly h = absurd (let e : false ≡ true = h in cc)
+  ticket_below (event ∷ past) orderly h = below_step event.seat past event.what orderly.1 (ticket_below past orderly.0) h
 
   -- a ticket of a seat was begun
   seats_ticket : (seat : ℕ) (past : List Event) → is_seats (known_of run past) seat ticket ≡ true → has_ticket past ticket ≡ true
@@ -271,34 +276,34 @@ next_grows event past ticket less = by (errand_of event)
     by None = less
     by (Some errand) = omega arith
 
-module _ (run : Fixed) (spelling : Spelling) (ticket : ℕ) where
-  answered_step : (seat : ℕ) (past : List Event) (what : What) → IsLegal run spelling past
-      → MayHappen spelling (known_of run past) seat what → (was_answered past ticket ≡ true → ticket < next_ticket past)
+module _ (run : Fixed) (ticket : ℕ) where
+  answered_step : (seat : ℕ) (past : List Event) (what : What) → IsOrderly run past
+      → MayHappen (known_of run past) seat what → (was_answered past ticket ≡ true → ticket < next_ticket past)
       → (is_answered ticket what || was_answered past ticket) ≡ true → ticket < next_ticket past
-  answered_step seat past (Answered closed reply) legal may rest h = by (closed == ticket) refl h
+  answered_step seat past (Answered closed reply) orderly may rest h = by (closed == ticket) refl h
     where
       by : (b : Bool) → (closed == ticket) ≡ b → (b || was_answered past ticket) ≡ true → ticket < next_ticket past
       by true is h =
           subst (λ (number : ℕ). number < next_ticket past) (equal_numbers closed ticket is)
-          (ticket_below run spelling closed past legal (seats_ticket run spelling closed seat past may.closes))
+          (ticket_below run closed past orderly (seats_ticket run closed seat past may.closes))
       by false is h = rest h
-  answered_step seat past _ legal may rest h = rest h
+  answered_step seat past _ orderly may rest h = rest h
 
   -- so are the tickets that were answered
-  answered_below : (history : List Event) → IsLegal run spelling history → was_answered history ticket ≡ true
+  answered_below : (history : List Event) → IsOrderly run history → was_answered history ticket ≡ true
       → ticket < next_ticket history
-  answered_below [] legal h = absurd (let e : false ≡ true = h in cc)
-  answered_below (event ∷ past) legal h =
+  answered_below [] orderly h = absurd (let e : false ≡ true = h in cc)
+  answered_below (event ∷ past) orderly h =
       next_grows event past ticket
-      (answered_step event.seat past event.what legal.0 legal.1 (answered_below past legal.0) h)
+      (answered_step event.seat past event.what orderly.0 orderly.1 (answered_below past orderly.0) h)
 
   -- the next ticket has no answer
-  next_unanswered : (history : List Event) → IsLegal run spelling history → ticket ≡ next_ticket history
+  next_unanswered : (history : List Event) → IsOrderly run history → ticket ≡ next_ticket history
       → was_answered history ticket ≡ false
-  next_unanswered history legal next = by (was_answered history ticket) refl
+  next_unanswered history orderly next = by (was_answered history ticket) refl
     where
       by : (b : Bool) → was_answered history ticket ≡ b → b ≡ false
-      by true is = absurd (let less : ticket < next_ticket history = answered_below history legal is in omega arith)
+      by true is = absurd (let less : ticket < next_ticket history = answered_below history orderly is in omega arith)
       by false is = refl
 
 -- ---- what is pending
@@ -313,8 +318,8 @@ last_left {X = X} {Y = Y} test made x xs passes =
     (Contains-append_right (map made (filter test (reverse xs))) (map made (filter test (x ∷ []))) (made x)
     (subst (λ (b : Bool). Contains (map made (if b then x ∷ [] else [])) (made x)) (sym passes) (0, omega arith, refl)))))
 
-module _ (run : Fixed) (spelling : Spelling) (past : List Event) (seat ticket lane : ℕ) (about : Op) (pending : Pending)
-    (legal : IsLegal run spelling (event_of seat (Begun ticket lane about) ∷ past))
+module _ (run : Fixed) (past : List Event) (seat ticket lane : ℕ) (about : Op) (pending : Pending)
+    (orderly : IsOrderly run (event_of seat (Begun ticket lane about) ∷ past))
     (opens : pending_for (known_of run past) about ≡ Some pending) where
   abbrev history : List Event
   history = event_of seat (Begun ticket lane about) ∷ past
@@ -334,8 +339,8 @@ module _ (run : Fixed) (spelling : Spelling) (past : List Event) (seat ticket la
   unanswered : not (was_answered history ticket) ≡ true
   unanswered =
       ap (λ (b : Bool). not b)
-      (next_unanswered run spelling ticket past legal.0
-      (legal.1.next ∙ ap (λ (events : List Event). next_ticket events) (history_of run past)))
+      (next_unanswered run ticket past orderly.0
+      (orderly.1.next ∙ ap (λ (events : List Event). next_ticket events) (history_of run past)))
 
   own_has : Contains (own_pending run history) pending
   own_has =
@@ -352,11 +357,11 @@ module _ (run : Fixed) (spelling : Spelling) (past : List Event) (seat ticket la
       (subst (λ (fixed : Fixed). Contains (own_pending fixed history) pending) (sym (run_of run history)) own_has))
 
 -- an operation that was begun is pending
-pub begun-pending : (run : Fixed) (spelling : Spelling) (event : Event) (past : List Event)
-    (ticket lane : ℕ) (about : Op) (pending : Pending) → IsLegal run spelling (event ∷ past) → event.what ≡ Begun ticket lane about
+pub begun-pending : (run : Fixed) (event : Event) (past : List Event)
+    (ticket lane : ℕ) (about : Op) (pending : Pending) → IsOrderly run (event ∷ past) → event.what ≡ Begun ticket lane about
     → pending_for (known_of run past) about ≡ Some pending → Contains (state_of run (event ∷ past)).pending pending
-begun-pending run spelling event past ticket lane about pending legal says opens =
+begun-pending run event past ticket lane about pending orderly says opens =
     let same : event_of event.seat (Begun ticket lane about) ≡ event = begun_event event (Begun ticket lane about) says in
     subst (λ (it : Event). Contains (state_of run (it ∷ past)).pending pending) same
-    (pending_has run spelling past event.seat ticket lane about pending
-    (subst (λ (it : Event). IsLegal run spelling (it ∷ past)) (sym same) legal) opens)
+    (pending_has run past event.seat ticket lane about pending
+    (subst (λ (it : Event). IsOrderly run (it ∷ past)) (sym same) orderly) opens)

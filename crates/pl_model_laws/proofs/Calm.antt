@@ -8,9 +8,10 @@ use Rattle.std.specs.Option.{option_or}
 use Rattle.pl_events.specs.declared.event.Event.{Event}
 use Rattle.pl_events.specs.declared.event.What.{What}
 use Rattle.pl_decide.specs.declared.problem.Problem.{Problem}
-use Rattle.pl_model.specs.Run.{Fixed}
+use Rattle.pl_model.specs.declared.decided.Decided.{Decided}
+use Rattle.pl_model.specs.declared.fixed.Fixed.{Fixed}
 use Rattle.pl_model.specs.Tickets.{answers_of, closed_by}
-use Rattle.pl_model.specs.Claims.{Decided, first_some, numbered}
+use Rattle.pl_model.specs.Claims.{first_some, numbered}
 use Rattle.pl_model.specs.Decisions.{decided_of}
 use Rattle.pl_model.specs.History.{asked_after, goals_after, known_of}
 use Rattle.pl_model.specs.Known.{Known, decided_goal, has_problem, known_by}

@@ -7,8 +7,11 @@ use Rattle.std.specs.List.{list_any}
 use Rattle.pl_state.specs.Chain.{chain_among, chain_of, chain_with, joins, refers_to}
 use Rattle.pl_state.specs.declared.entry.Entry.{Entry}
 use Rattle.pl_events.specs.declared.event.Event.{Event}
-use Rattle.pl_model.specs.Run.{Fixed, rows_of}
-use Rattle.pl_model.specs.Claims.{Decided, chain_of_claim, chain_of_goal, is_chained, is_delete_first, is_row, numbered}
+use Rattle.pl_model.specs.declared.decided.Decided.{Decided}
+use Rattle.pl_model.specs.declared.fixed.Fixed.{Fixed}
+use Rattle.pl_model.specs.Run.{rows_of}
+use Rattle.pl_decide.specs.Limited.{is_delete_first}
+use Rattle.pl_model.specs.Claims.{chain_of_claim, chain_of_goal, is_chained, is_row, numbered}
 use Rattle.pl_model.specs.History.{known_of}
 use Rattle.pl_model.specs.Known.{decided_goal}
 use Rattle.pl_model.specs.Recording.{has_number}

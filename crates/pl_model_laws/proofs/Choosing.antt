@@ -4,20 +4,23 @@ use Rattle.std.specs.Bool.{Decides}
 use Rattle.std.specs.List.{list_any, range_with_len}
 use Rattle.pl_state.specs.Chain.{some_passes}
 use Rattle.pl_state.specs.Component.{has_none}
+use Rattle.pl_events.specs.Lanes.{LanesTold}
 use Rattle.pl_events.specs.declared.event.Event.{Event}
 use Rattle.pl_events.specs.declared.operation.Op.{Op}
 use Rattle.pl_events.specs.declared.operation.Op.TheVariants as op
 use Rattle.pl_events.specs.declared.operation.Source.{Source}
 use Rattle.pl_events.specs.declared.operation.Source.TheVariants as source
-use Rattle.pl_model.specs.Run.{Fixed, Spelling}
-use Rattle.pl_model.specs.Choice.{LaneTable, TellsLanes, can_be_taken, is_too_many, lane_for, lane_there}
-use Rattle.pl_model.specs.Due.{Work, to_post, to_keep, to_clear, to_drop, to_send, due_work, has_open, is_checked_lane, is_due, is_due_on, is_lane_of, is_ready_on, is_ready_op, is_wanted_op, lane_numbers, over_limit, passes_limit, source_of_op, wants_lane, works_of}
+use Rattle.pl_model.specs.declared.errand.Errand.{Errand}
+use Rattle.pl_model.specs.declared.fixed.Fixed.{Fixed}
+use Rattle.pl_model.specs.declared.work.Work.{Work}
+use Rattle.pl_model.specs.declared.work.Work.TheVariants.{Clear as to_clear, Drop as to_drop, Keep as to_keep, Post as to_post, Send as to_send}
+use Rattle.pl_model.specs.Choice.{TellsLanes, can_be_taken, is_too_many, lane_for, lane_there}
+use Rattle.pl_model.specs.Due.{due_work, has_open, is_checked_lane, is_due, is_due_on, is_lane_of, is_ready_on, is_ready_op, is_wanted_op, lane_numbers, over_limit, passes_limit, source_of_op, wants_lane, works_of}
 use Rattle.pl_model.specs.History.{known_of}
 use Rattle.pl_model.specs.Known.{Known, has_problem}
-use Rattle.pl_model.specs.Legal.{IsLegal, MayBeTooMany}
-use Rattle.pl_model.specs.Tickets.{Errand, source_begun, is_coming, is_configured, is_free, is_lost, is_out, is_source, lane_count, lane_source, lanes_from, was_begun}
+use Rattle.pl_model.specs.Legal.{IsOrderly, MayBeTooMany}
+use Rattle.pl_model.specs.Tickets.{source_begun, is_coming, is_configured, is_free, is_lost, is_out, is_source, lane_count, lane_source, lanes_from, was_begun}
 use Rattle.pl_model_laws.specs.Choosing.{IsLeastDue, IsTakenDue, is_post, uses_lane}
-use Rattle.pl_model_laws.specs.Quiet.{RepliesFit}
 use Rattle.pl_model_laws.proofs.Among.{any_found, find_among}
 use Rattle.pl_model_laws.proofs.Lanes.{checked_source, configured-for, lane-sourced, lanes-have, next_unused, on_begun}
 use Rattle.pl_model_laws.proofs.Pairs.{Each, each-all}
@@ -130,27 +133,27 @@ lane-there-least known about lane h =
     }
 
 -- a lane on which a provider's inputs were checked, and that is to be configured, is coming
-checked_coming : (run : Fixed) (spelling : Spelling) (fit : RepliesFit spelling) (history : List Event) (number lane : ℕ) → IsLegal run spelling history
+checked_coming : (run : Fixed) (history : List Event) (number lane : ℕ) → IsOrderly run history
     → lane_source history lane ≡ Some (source.Goal number) → was_begun history (op.Configure (source.Goal number)) ≡ false
     → not (is_lost history lane) ≡ true → is_coming history lane ≡ true
-checked_coming run spelling fit history number lane legal sourced new kept =
+checked_coming run history number lane orderly sourced new kept =
     both (not (is_configured history lane)) (not (is_lost history lane)) (by (is_configured history lane) refl) kept
   where
     by : (b : Bool) → is_configured history lane ≡ b → not b ≡ true
     by false is = refl
     by true is =
-        let one = configured-for run spelling fit history lane legal is in
+        let one = configured-for run history lane orderly is in
         let same : one.0 ≡ source.Goal number =
         some_same one.0 (source.Goal number)
-        (sym (lane-sourced run spelling history lane (op.Configure one.0) one.0 legal one.1 refl) ∙ sourced) in
+        (sym (lane-sourced run history lane (op.Configure one.0) one.0 orderly one.1 refl) ∙ sourced) in
         absurd (never_both (was_begun history (op.Configure (source.Goal number)))
         (subst (λ (own : Source). was_begun history (op.Configure own) ≡ true) same (on_begun history lane (op.Configure one.0) one.1)) new)
 
-pub checked-or-new : (run : Fixed) (spelling : Spelling) (history : List Event) (wanted : Source) (lane : ℕ)
-    → RepliesFit spelling → IsLegal run spelling history → is_checked_lane (known_of run history) wanted lane ≡ true
+pub checked-or-new : (run : Fixed) (history : List Event) (wanted : Source) (lane : ℕ)
+    → IsOrderly run history → is_checked_lane (known_of run history) wanted lane ≡ true
     → wants_lane (known_of run history) wanted ≡ false
-checked-or-new run spelling history (source.Row row) lane fit legal h = absurd (let e : false ≡ true = h in cc)
-checked-or-new run spelling history (source.Goal number) lane fit legal h =
+checked-or-new run history (source.Row row) lane orderly h = absurd (let e : false ≡ true = h in cc)
+checked-or-new run history (source.Goal number) lane orderly h =
     false_or (wants_lane (known_of run history) (source.Goal number)) (λ wants. never_both _ coming (none wants))
   where
     same : (known_of run history).history ≡ history
@@ -175,7 +178,7 @@ checked-or-new run spelling history (source.Goal number) lane fit legal h =
     coming : list_any (is_coming history) (lanes_from history (source.Goal number)) ≡ true
     coming =
         lanes-have history (source.Goal number) (is_coming history) lane sourced
-        (checked_coming run spelling fit history number lane legal sourced new kept)
+        (checked_coming run history number lane orderly sourced new kept)
 
     none : wants_lane (known_of run history) (source.Goal number) ≡ true
         → list_any (is_coming history) (lanes_from history (source.Goal number)) ≡ false
@@ -234,7 +237,7 @@ module _ (known : Known) (about : Op) (wanted : Source) (uses : uses_lane about 
           ap (λ (b : Bool). b && not (passes_limit known (to_send about))) (lane-unready known about lane ready low)
       by true ready false over h = absurd (let e : true ≡ false = h in cc)
 
-  pub table-tells : (table : LaneTable) → TellsLanes table known
+  pub table-tells : (table : LanesTold) → TellsLanes table known
       → lane_there known about ≡ (if is_due known (to_send about) then table.free wanted else None)
   table-tells table tells = by (is_due known (to_send about)) refl
     where
@@ -306,7 +309,7 @@ module _ (known : Known) (about : Op) (uses : uses_lane about ≡ true) where
       (let e : lane_count known.history ≡ 0 + lane_count known.history = omega arith in e) next_is_none))
 
   -- which the table tells
-  free_is : (table : LaneTable) → TellsLanes table known
+  free_is : (table : LanesTold) → TellsLanes table known
       → list_any (is_lane_of known about) (range_with_len 0 (lane_count known.history))
       ≡ is_some (option_and_then table.free (source_of_op known about))
   free_is table tells = by (source_of_op known about)
@@ -324,7 +327,7 @@ module _ (known : Known) (about : Op) (uses : uses_lane about ≡ true) where
           (range_with_len 0 (lane_count known.history)))
           ∙ sym (tells.free wanted))
 
-  pub table-decides : (table : LaneTable) → TellsLanes table known
+  pub table-decides : (table : LanesTold) → TellsLanes table known
       → is_due known (to_send about)
       ≡ (not (has_problem known) && is_wanted_op known about && is_some (option_and_then table.free (source_of_op known about))
       && not (passes_limit known (to_send about)))

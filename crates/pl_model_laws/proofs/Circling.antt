@@ -17,19 +17,25 @@ use Rattle.pl_events.specs.declared.operation.Subject.TheVariants as subject
 use Rattle.pl_events.specs.declared.reply.Reply.{Reply}
 use Rattle.pl_decide.specs.declared.decision.Decision.{Decision}
 use Rattle.pl_decide.specs.declared.decision.Decision.TheVariants as decision
-use Rattle.pl_model.specs.Run.{Fixed, Pairs, Spelling, is_destroy, is_preview, is_refresh, rows_of}
+use Rattle.pl_model.specs.declared.decided.Decided.{Decided}
+use Rattle.pl_model.specs.declared.errand.Closed.{Closed}
+use Rattle.pl_model.specs.declared.fixed.Fixed.{Fixed}
+use Rattle.pl_model.specs.Run.{Pairs, is_destroy, is_preview, is_refresh, rows_of}
 use Rattle.pl_model.specs.Asked.{call_of}
-use Rattle.pl_model.specs.Claims.{Decided, chain_of_claim, chain_of_goal, claimer_of, is_claimed, is_create_first, is_delete_first, is_row, numbered}
-use Rattle.pl_model.specs.Decisions.{Turn, change_at, claim_at, decided_by, decided_of, checked_at, checked_in, decided_at, diff_at, diffed_in, is_provider_unknown, is_refused, needs_check, number_at, turn_in, wants_diff}
+use Rattle.pl_decide.specs.Limited.{is_create_first, is_delete_first, is_refused}
+use Rattle.pl_model.specs.Claims.{chain_of_claim, chain_of_goal, claimer_of, is_claimed, is_row, numbered}
+use Rattle.pl_model.specs.Decisions.{Turn, change_at, claim_at, decided_by, decided_of, checked_at, checked_in, decided_at, diff_at, diffed_in, is_provider_unknown, needs_check, number_at, turn_in, wants_diff}
 use Rattle.pl_model.specs.Due.{asks_check, asks_config, asks_diff, at_turn, for_decided, is_asked, is_carried_out, is_drop_ready, is_keep_ready, is_placed, is_reading, is_removable, is_wanted_op, keeps_goal, op_of_goal, operations_of, provider_recorded, provider_stands, references_recorded, sends_goal, source_of_op, urn_is_free, way_is_free, none_or}
 use Rattle.pl_model.specs.History.{known_of}
 use Rattle.pl_model.specs.Known.{Known, all_recorded, decided_goal, goal_at, host_ended, is_over, is_recorded, next_turn}
 use Rattle.pl_model.specs.Problems.{lacks_provider}
 use Rattle.pl_model.specs.Recording.{goal_of_op, has_number, only_if, removed_of}
 use Rattle.pl_model.specs.Rows.{has_dependents, is_deleted_first, is_doomed, is_left, is_marked, is_sent, is_taken_out, is_taken_over, is_target, row_at, source_of_goal, source_of_provider, source_of_row, stands_beside, takes_along, was_removed}
-use Rattle.pl_model.specs.Tickets.{Closed, reply_to, same_op, was_begun, was_configured}
+use Rattle.pl_model.specs.Tickets.{reply_to, same_op, was_begun, was_configured}
 use Rattle.pl_model_laws.specs.Laws.{is_configure}
-use Rattle.pl_model_laws.specs.Quiet.{IsAllDone, tells_success}
+use Rattle.pl_events.specs.Replies.{tells_success}
+use Rattle.pl_model_laws.specs.Quiet.{IsAllDone}
+use Rattle.pl_model_laws.proofs.Along.{along-so, left-row}
 use Rattle.pl_model_laws.proofs.Chains.{chain-closed, chain-of-claim, chained-kept}
 use Rattle.pl_model_laws.proofs.Claiming.{claims-allowed, passing_number, was-made}
 use Rattle.pl_model_laws.proofs.Growing.{decided_as, numbered_below, or_true, run_of, same_number}
@@ -62,7 +68,7 @@ pub record IsStill (run : Fixed) (history : List Event) : Type 0 where
   pub named : (n : ℕ) (goal : Goal) → goal_at (known_of run history) n ≡ Some goal → is_provided goal ≡ true
       → (m : ℕ) × (goal.provider ≡ Some m) × (m < n)
 
-module _ (run : Fixed) (spelling : Spelling) (history : List Event) (still : IsStill run history) where
+module _ (run : Fixed) (history : List Event) (still : IsStill run history) where
   abbrev known : Known
   known = known_of run history
 
@@ -390,7 +396,7 @@ module _ (run : Fixed) (spelling : Spelling) (history : List Event) (still : IsS
     held_unmarked : (row m : ℕ) (before : Decided) → decided_goal known m ≡ Some before → is_row before.claim row ≡ true
         → is_delete_first before.decision ≡ true → is_marked known row ≡ false
     held_unmarked row m before decided claims first =
-        never-marked run spelling history m row before decided claims (first_only before.decision first) history (later-now run history)
+        never-marked run history m row before decided claims (first_only before.decision first) history (later-now run history)
       where
         first_only : (choice : Decision) → is_delete_first choice ≡ true → is_create_first choice ≡ false
         first_only (decision.Replace true) h = absurd (let e : false ≡ true = h in cc)
@@ -416,8 +422,11 @@ module _ (run : Fixed) (spelling : Spelling) (history : List Event) (still : IsS
           let there : has_number (chain_of_goal known.run one) row ≡ true =
           ap (λ (fixed : Fixed). has_number (chain_of_goal fixed one) row) (run_of run history) ∙ chained in
           both (is_delete_first one.decision) _ first (either (is_row one.claim row) _
-          (both (has_number (chain_of_goal known.run one) row) _ there (by (is_claimed known.decided row) refl)))
+          (both (has_number (chain_of_goal known.run one) row) _ there (along-so known row at.0 at.1 (by (is_claimed known.decided row) refl))))
         where
+          at : (entry : Entry) × (row_at known row ≡ Some entry)
+          at = left-row known row left
+
           by : (b : Bool) → is_claimed known.decided row ≡ b → (not (is_claimed known.decided row) || is_marked known row) ≡ true
           by false is = rw is refl
           by true is = either (not (is_claimed known.decided row)) (is_marked known row) (marked_so row chained left is)

@@ -17,10 +17,14 @@ use Rattle.pl_decide.specs.declared.decision.ProviderChange.{ProviderChange}
 use Rattle.pl_decide.specs.declared.problem.Problem.{Problem}
 use Rattle.pl_decide.specs.declared.problem.Problem.TheVariants.{CustomChanged, ImportConflict, ReadOverManaged}
 use Rattle.pl_value.specs.Same.{fields_same}
-use Rattle.pl_model.specs.Run.{Fixed, Pairs, rows_of}
-use Rattle.pl_model.specs.Tickets.{Closed, answers_of}
-use Rattle.pl_model.specs.Claims.{Decided, claim_by, first_some, is_chained, is_claimed, is_row, may_claim, number_where, numbered}
-use Rattle.pl_model.specs.Decisions.{Turn, chain_refusal, change_at, checked_at, claim_at, decided_at, decided_by, decided_next, decided_of, diff_at, final_decision, is_refused, is_replacement, limit_refusal, refused_by, turn_of}
+use Rattle.pl_model.specs.declared.decided.Decided.{Decided}
+use Rattle.pl_model.specs.declared.errand.Closed.{Closed}
+use Rattle.pl_model.specs.declared.fixed.Fixed.{Fixed}
+use Rattle.pl_model.specs.Run.{Pairs, rows_of}
+use Rattle.pl_model.specs.Tickets.{answers_of}
+use Rattle.pl_model.specs.Claims.{claim_by, first_some, is_chained, is_claimed, is_row, may_claim, number_where, numbered}
+use Rattle.pl_decide.specs.Limited.{final_decision, first_refusal, is_delete_first, is_replacement, own_refusal, refused_by}
+use Rattle.pl_model.specs.Decisions.{Turn, chain_at, change_at, checked_at, claim_at, claims_at, decided_at, decided_by, decided_next, decided_of, diff_at, turn_of}
 use Rattle.pl_model.specs.History.{known_of}
 use Rattle.pl_model.specs.Known.{decided_goal}
 use Rattle.pl_model_laws.proofs.Growing.{Grown, decided_as, equal_numbers, grown_by, grown_not, numbered_grown, numbered_more, or_true, run_of, same_number}
@@ -328,14 +332,23 @@ module _ (goal : Goal) (change : ProviderChange) (checked : Pairs) (diff : Optio
       by false true = refl
       by false false = kin_stays (kin_of claim)
 
--- nor do the chain and the limits
-final_stays : (turn : Turn) (choice : Decision) → is_replacement choice ≡ false → is_replacement (final_decision turn choice) ≡ false
-final_stays turn choice h = by (is_refused choice) (option_or (chain_refusal turn choice) (limit_refusal turn choice))
+-- the chain and the limits leave a decision as it is or refuse it: where a test passes neither, it does not pass
+-- what they make of it
+pub final_fails : (test : Decision → Bool) (turn : Turn) (choice : Decision) → ((problem : Problem) → test (decision.Refused problem) ≡ false)
+    → test choice ≡ false
+    → test (final_decision turn.run.limits (claim_at turn) turn.goal (claims_at turn) (chain_at turn) choice) ≡ false
+final_fails test turn choice none h =
+    by (is_delete_first choice) (first_refusal turn.run.limits (claim_at turn) turn.goal (claims_at turn) (chain_at turn) choice)
+    (own_refusal turn.run.limits (claim_at turn) turn.goal choice)
   where
-    by : (b : Bool) (o : Option Problem) → is_replacement (if b then choice else refused_by o choice) ≡ false
-    by true o = h
-    by false None = h
-    by false (Some problem) = refl
+    refused : (o : Option Problem) → test (refused_by o choice) ≡ false
+    refused None = h
+    refused (Some problem) = none problem
+
+    by : (b : Bool) (first own : Option Problem)
+        → test (if b then refused_by first choice else (if b then choice else refused_by own choice)) ≡ false
+    by true first own = refused first
+    by false first own = refused own
 
 -- no decision replaces what has no provider
 pub unprovided-stays : (run : Fixed) (history : List Event) (number : ℕ) (one : Decided) (made : WasMade run history number one)
@@ -344,5 +357,5 @@ unprovided-stays run history number one made unprovided =
     let turn : Turn = turn_of run (answers_of (known_of run history).history) made.earlier made.before made.goal in
     let parts = decided_parts turn one made.made in
     subst (λ (it : Decided). is_replacement it.decision ≡ false) parts.2
-    (final_stays turn (decide (claim_at turn) made.goal (change_at turn) parts.0 parts.1)
+    (final_fails is_replacement turn (decide (claim_at turn) made.goal (change_at turn) parts.0 parts.1) (λ problem. refl)
     (table_stays made.goal (change_at turn) parts.0 parts.1 unprovided (claim_at turn)))

@@ -11,14 +11,17 @@ use Rattle.pl_events.specs.declared.operation.Source.{Source}
 use Rattle.pl_events.specs.declared.operation.Source.TheVariants as source
 use Rattle.pl_events.specs.declared.operation.Subject.TheVariants as subject
 use Rattle.pl_events.specs.declared.reply.Reply.{Reply}
-use Rattle.pl_model.specs.Run.{Fixed, Pairs, Spelling}
-use Rattle.pl_model.specs.Tickets.{Closed, Errand, answers_of, begun_of, closed_by, errand_at, errand_of, is_coming, is_configured, is_lost, lane_source, lanes_from, reply_if, reply_to, same_op, was_begun}
+use Rattle.pl_model.specs.declared.errand.Closed.{Closed}
+use Rattle.pl_model.specs.declared.errand.Errand.{Errand}
+use Rattle.pl_model.specs.declared.fixed.Fixed.{Fixed}
+use Rattle.pl_model.specs.declared.work.Work.TheVariants.{Send as to_send}
+use Rattle.pl_model.specs.Run.{Pairs}
+use Rattle.pl_model.specs.Tickets.{answers_of, begun_of, closed_by, errand_at, errand_of, is_coming, is_configured, is_lost, lane_source, lanes_from, reply_if, reply_to, same_op, was_begun}
 use Rattle.pl_model.specs.Decisions.{Turn, checked_in, number_at, turn_in}
-use Rattle.pl_model.specs.Due.{asks_config, is_checked_lane, is_due_on, is_next_lane, is_ready_on, may_configure, passes_limit, to_send, wants_lane}
+use Rattle.pl_model.specs.Due.{asks_config, is_checked_lane, is_due_on, is_next_lane, is_ready_on, may_configure, passes_limit, wants_lane}
 use Rattle.pl_model.specs.History.{known_of}
 use Rattle.pl_model.specs.Known.{Known, has_problem, is_recorded, next_turn}
-use Rattle.pl_model.specs.Legal.{IsLegal, MayHappen}
-use Rattle.pl_model_laws.specs.Quiet.{RepliesFit}
+use Rattle.pl_model.specs.Legal.{IsOrderly, MayHappen}
 use Rattle.pl_model_laws.proofs.Growing.{equal_numbers, numbered_below, or_true, run_of, same_number}
 use Rattle.pl_model_laws.proofs.Lanes.{checked_source, configured-for, either_true, lane-begins, lane-sourced, lanes-have, on_begun, one-lane, was_begun_on}
 use Rattle.pl_model_laws.proofs.Once.{and_left, and_right, equal_ops, history_of, not_true, ready_unbegun}
@@ -134,8 +137,8 @@ due_provided run past number lane ready = by (configure_due (known_of run past) 
 due_ready : (known : Known) (about : Op) (lane : ℕ) → is_due_on known about lane ≡ true → is_ready_on known about lane ≡ true
 due_ready known about lane due = and_left (is_ready_on known about lane) (not (passes_limit known (to_send about))) due
 
-module _ (run : Fixed) (spelling : Spelling) where
-  provided_next : (seat : ℕ) (past : List Event) (what : What) (number : ℕ) → MayHappen spelling (known_of run past) seat what
+module _ (run : Fixed) where
+  provided_next : (seat : ℕ) (past : List Event) (what : What) (number : ℕ) → MayHappen (known_of run past) seat what
       → (was_begun past (op.Configure (source.Goal number)) ≡ true → IsProvided run past number)
       → was_begun (record { seat = seat; what = what } ∷ past) (op.Configure (source.Goal number)) ≡ true → IsProvided run past number
   provided_next seat past (Begun ticket lane one) number may rest begun = by (same_op one (op.Configure (source.Goal number))) refl begun
@@ -149,18 +152,18 @@ module _ (run : Fixed) (spelling : Spelling) where
       by false is h = rest h
   provided_next seat past _ number may rest begun = rest begun
 
-  configured_provided : (history : List Event) (number : ℕ) → IsLegal run spelling history
+  configured_provided : (history : List Event) (number : ℕ) → IsOrderly run history
       → was_begun history (op.Configure (source.Goal number)) ≡ true → IsProvided run history number
-  configured_provided [] number legal h = absurd (let e : false ≡ true = h in cc)
-  configured_provided (event ∷ past) number legal h =
+  configured_provided [] number orderly h = absurd (let e : false ≡ true = h in cc)
+  configured_provided (event ∷ past) number orderly h =
       provided_stays run event past number
-      (provided_next event.seat past event.what number legal.1 (λ before. configured_provided past number legal.0 before) h)
+      (provided_next event.seat past event.what number orderly.1 (λ before. configured_provided past number orderly.0 before) h)
 
   -- no check of inputs is due for a goal of which a lane was configured
-  check_first : (past : List Event) (number lane : ℕ) → IsLegal run spelling past
+  check_first : (past : List Event) (number lane : ℕ) → IsOrderly run past
       → is_ready_on (known_of run past) (op.CheckConfig (subject.Goal number)) lane ≡ true
       → was_begun past (op.Configure (source.Goal number)) ≡ true → ⊥
-  check_first past number lane legal ready begun = by (configured_provided past number legal begun)
+  check_first past number lane orderly ready begun = by (configured_provided past number orderly begun)
     where
       turn : (turn : Turn) × (next_turn (known_of run past) ≡ Some turn) × ((number_at turn == number && asks_config turn) ≡ true)
       turn =
@@ -175,7 +178,7 @@ module _ (run : Fixed) (spelling : Spelling) where
           (subst (λ (events : List Event). was_begun events (op.CheckConfig (subject.Goal number)) ≡ false) (history_of run past)
           (ready_unbegun (known_of run past) (op.CheckConfig (subject.Goal number)) lane refl ready))
       by (inr h) =
-          let there = recorded-held run spelling past number legal h in
+          let there = recorded-held run past number orderly h in
           let low : number < length (known_of run past).decided =
           numbered_below (known_of run past).decided number there.1 there.2.decided in
           let count : number_at turn.0 ≡ length (known_of run past).decided =
@@ -187,32 +190,32 @@ module _ (run : Fixed) (spelling : Spelling) where
 
 -- ---- where its inputs were checked, there a provider's lane is configured
 
-module _ (run : Fixed) (spelling : Spelling) (fit : RepliesFit spelling) where
+module _ (run : Fixed) where
   -- a lane on which inputs were checked is coming, while no lane of its provider is configured
-  checked_coming : (past : List Event) (number lane : ℕ) → IsLegal run spelling past → has_problem (known_of run past) ≡ false
+  checked_coming : (past : List Event) (number lane : ℕ) → IsOrderly run past → has_problem (known_of run past) ≡ false
       → was_begun_on past lane (op.CheckConfig (subject.Goal number)) ≡ true
       → was_begun past (op.Configure (source.Goal number)) ≡ false → is_coming past lane ≡ true
-  checked_coming past number lane legal calm checked new =
+  checked_coming past number lane orderly calm checked new =
       both (not (is_configured past lane)) (not (is_lost past lane)) (unconfigured (is_configured past lane) refl)
-      (ap (λ (b : Bool). not b) (none-lost run spelling past legal calm lane))
+      (ap (λ (b : Bool). not b) (none-lost run past orderly calm lane))
     where
       unconfigured : (b : Bool) → is_configured past lane ≡ b → not b ≡ true
       unconfigured false is = refl
       unconfigured true is =
-          let one = configured-for run spelling fit past lane legal is in
+          let one = configured-for run past lane orderly is in
           let same : one.0 ≡ source.Goal number =
           some_same one.0 (source.Goal number)
-          (sym (lane-sourced run spelling past lane (op.Configure one.0) one.0 legal one.1 refl)
-          ∙ lane-sourced run spelling past lane (op.CheckConfig (subject.Goal number)) (source.Goal number) legal checked refl) in
+          (sym (lane-sourced run past lane (op.Configure one.0) one.0 orderly one.1 refl)
+          ∙ lane-sourced run past lane (op.CheckConfig (subject.Goal number)) (source.Goal number) orderly checked refl) in
           absurd (never_both (was_begun past (op.Configure (source.Goal number)))
           (subst (λ (own : Source). was_begun past (op.Configure own) ≡ true) same (on_begun past lane (op.Configure one.0) one.1)) new)
 
   -- the first configuration for a goal is on the lane where its inputs were checked
-  first_configured : (past : List Event) (number lane to : ℕ) → IsLegal run spelling past
+  first_configured : (past : List Event) (number lane to : ℕ) → IsOrderly run past
       → is_ready_on (known_of run past) (op.Configure (source.Goal number)) to ≡ true
       → was_begun_on past lane (op.CheckConfig (subject.Goal number)) ≡ true
       → was_begun past (op.Configure (source.Goal number)) ≡ false → to ≡ lane
-  first_configured past number lane to legal ready checked new =
+  first_configured past number lane to orderly ready checked new =
       by (configure_due (known_of run past) (source.Goal number) to ready)
     where
       calm : has_problem (known_of run past) ≡ false
@@ -224,7 +227,7 @@ module _ (run : Fixed) (spelling : Spelling) (fit : RepliesFit spelling) where
       begun (inl h) =
           absurd (never_both (was_begun past (op.Configure (source.Goal number))) (on_begun past to (op.Configure (source.Goal number)) h) new)
       begun (inr h) =
-          one-lane run spelling past to lane (op.CheckConfig (subject.Goal number)) legal refl
+          one-lane run past to lane (op.CheckConfig (subject.Goal number)) orderly refl
           (subst (λ (n : ℕ). was_begun_on past to (op.CheckConfig (subject.Goal n)) ≡ true) (same h.0 h.1) h.2) checked
         where
           same : (other : ℕ) → source.Goal number ≡ source.Goal other → other ≡ number
@@ -241,18 +244,18 @@ module _ (run : Fixed) (spelling : Spelling) (fit : RepliesFit spelling) where
           subst (λ (events : List Event). list_any (is_coming events) (lanes_from events (source.Goal number)) ≡ false) (history_of run past)
           (not_true _ (and_right _ _ (and_left _ _ h))) in
           absurd (never_both _ (lanes-have past (source.Goal number) (is_coming past) lane
-          (lane-sourced run spelling past lane (op.CheckConfig (subject.Goal number)) (source.Goal number) legal checked refl)
-          (checked_coming past number lane legal calm checked new)) none)
+          (lane-sourced run past lane (op.CheckConfig (subject.Goal number)) (source.Goal number) orderly checked refl)
+          (checked_coming past number lane orderly calm checked new)) none)
 
-  paired_next : (seat : ℕ) (past : List Event) (what : What) (number lane : ℕ) → IsLegal run spelling past
-      → MayHappen spelling (known_of run past) seat what
+  paired_next : (seat : ℕ) (past : List Event) (what : What) (number lane : ℕ) → IsOrderly run past
+      → MayHappen (known_of run past) seat what
       → (was_begun_on past lane (op.CheckConfig (subject.Goal number)) ≡ true
       → was_begun past (op.Configure (source.Goal number)) ≡ true
       → was_begun_on past lane (op.Configure (source.Goal number)) ≡ true)
       → was_begun_on (record { seat = seat; what = what } ∷ past) lane (op.CheckConfig (subject.Goal number)) ≡ true
       → was_begun (record { seat = seat; what = what } ∷ past) (op.Configure (source.Goal number)) ≡ true
       → was_begun_on (record { seat = seat; what = what } ∷ past) lane (op.Configure (source.Goal number)) ≡ true
-  paired_next seat past (Begun ticket to one) number lane legal may rest checked begun =
+  paired_next seat past (Begun ticket to one) number lane orderly may rest checked begun =
       by (same_op one (op.CheckConfig (subject.Goal number))) refl (same_op one (op.Configure (source.Goal number))) refl
       (was_begun past (op.Configure (source.Goal number))) refl checked begun
     where
@@ -267,7 +270,7 @@ module _ (run : Fixed) (spelling : Spelling) (fit : RepliesFit spelling) where
           → (((to == lane) && c) || was_begun_on past lane (op.CheckConfig (subject.Goal number))) ≡ true → (d || e) ≡ true
           → (((to == lane) && d) || was_begun_on past lane (op.Configure (source.Goal number))) ≡ true
       by true is d at true was checked begun =
-          absurd (check_first run spelling past number to legal (ready (op.CheckConfig (subject.Goal number)) is) was)
+          absurd (check_first run past number to orderly (ready (op.CheckConfig (subject.Goal number)) is) was)
       by true is true at false was checked begun =
           let e : op.CheckConfig (subject.Goal number) ≡ op.Configure (source.Goal number) =
           sym (equal_ops one (op.CheckConfig (subject.Goal number)) is) ∙ equal_ops one (op.Configure (source.Goal number)) at in
@@ -277,19 +280,19 @@ module _ (run : Fixed) (spelling : Spelling) (fit : RepliesFit spelling) where
           ap (λ (b : Bool). ((to == lane) && d) || b) (rest (second_passes (to == lane) _ checked) was) ∙ or_true ((to == lane) && d)
       by false is true at false was checked begun =
           let same : to ≡ lane =
-          first_configured past number lane to legal (ready (op.Configure (source.Goal number)) at)
+          first_configured past number lane to orderly (ready (op.Configure (source.Goal number)) at)
           (second_passes (to == lane) _ checked) was in
           ap (λ (b : Bool). (b && true) || was_begun_on past lane (op.Configure (source.Goal number)))
           (subst (λ (n : ℕ). (to == n) ≡ true) same (same_number to))
       by false is false at false was checked begun = absurd (let e : false ≡ true = begun in cc)
-  paired_next seat past _ number lane legal may rest checked begun = rest checked begun
+  paired_next seat past _ number lane orderly may rest checked begun = rest checked begun
 
   -- once a lane of a provider was configured, the one where its inputs were checked was
-  pub checked-paired : (history : List Event) (number lane : ℕ) → IsLegal run spelling history
+  pub checked-paired : (history : List Event) (number lane : ℕ) → IsOrderly run history
       → was_begun_on history lane (op.CheckConfig (subject.Goal number)) ≡ true
       → was_begun history (op.Configure (source.Goal number)) ≡ true
       → was_begun_on history lane (op.Configure (source.Goal number)) ≡ true
-  checked-paired [] number lane legal checked begun = absurd (let e : false ≡ true = begun in cc)
-  checked-paired (event ∷ past) number lane legal checked begun =
-      paired_next event.seat past event.what number lane legal.0 legal.1
-      (λ first second. checked-paired past number lane legal.0 first second) checked begun
+  checked-paired [] number lane orderly checked begun = absurd (let e : false ≡ true = begun in cc)
+  checked-paired (event ∷ past) number lane orderly checked begun =
+      paired_next event.seat past event.what number lane orderly.0 orderly.1
+      (λ first second. checked-paired past number lane orderly.0 first second) checked begun

@@ -1,6 +1,6 @@
 -- The state with an operation begun covers it.
 use Rattle.std.proofs.Common.{◌≡◌, ℕ, true, false, not, ◌&&◌, List, [], ◌∷◌, ◌++◌, option_and_then, option_map, slice_get, Option, Some, None, refl, sym, ◌∙◌, ap, subst}
-use Rattle.pl_state.specs.Sound.{IsSound}
+use Rattle.pl_sound.specs.Sound.{IsSound}
 use Rattle.pl_state.specs.declared.entry.Entry.{Entry}
 use Rattle.pl_state.specs.declared.goal.Goal.{Goal}
 use Rattle.pl_state.specs.declared.pending.Pending.{Pending}
@@ -12,18 +12,20 @@ use Rattle.pl_events.specs.declared.event.What.TheVariants.{Begun}
 use Rattle.pl_events.specs.declared.operation.Op.{Op}
 use Rattle.pl_events.specs.declared.operation.Op.TheVariants as op
 use Rattle.pl_events.specs.declared.operation.Subject.TheVariants as subject
-use Rattle.pl_model.specs.Run.{Fixed, HasNames, Spelling, is_preview, is_refresh, rows_of}
-use Rattle.pl_model.specs.Claims.{Decided}
+use Rattle.pl_model.specs.declared.decided.Decided.{Decided}
+use Rattle.pl_model.specs.declared.fixed.Fixed.{Fixed}
+use Rattle.pl_model.specs.declared.work.Work.TheVariants.{Send as to_send}
+use Rattle.pl_model.specs.Run.{HasNames, is_preview, is_refresh, rows_of}
 use Rattle.pl_model.specs.Covers.{Covers, CoversKind}
-use Rattle.pl_model.specs.Due.{is_asked, is_delete_ready, is_due_on, is_lane_of, is_ready_on, is_removable, is_wanted_op, passes_limit, to_send}
+use Rattle.pl_model.specs.Due.{is_asked, is_delete_ready, is_due_on, is_lane_of, is_ready_on, is_removable, is_wanted_op, passes_limit}
 use Rattle.pl_model.specs.Entries.{goal_entry, new_entries, old_entries, result_with, row_now}
 use Rattle.pl_model.specs.History.{known_of}
 use Rattle.pl_model.specs.Known.{Known, decided_goal, has_problem}
-use Rattle.pl_model.specs.Legal.{IsLegal, MayHappen}
+use Rattle.pl_model.specs.Legal.{IsOrderly, MayHappen}
 use Rattle.pl_model.specs.Rows.{goes_with, is_deletable, is_sent, row_at}
 use Rattle.pl_model.specs.Saves.{is_covered}
 use Rattle.pl_model.specs.State.{pending_for, pending_with, state_of, updating_result}
-use Rattle.pl_model_laws.specs.Soundness.{NameProviders}
+use Rattle.pl_model.specs.RunData.{NameProviders}
 use Rattle.pl_model_laws.proofs.Beginning.{begun-entries, begun-pending}
 use Rattle.pl_model_laws.proofs.Covering.{deletion-found, references-found, row-found}
 use Rattle.pl_model_laws.proofs.Growing.{run_of}
@@ -36,9 +38,9 @@ use Rattle.pl_model_laws.proofs.Staying.{passes_some}
 abbrev pending_of_kind : PendingKind → Entry → Pending
 pending_of_kind kind entry = record { kind = kind; entry = entry }
 
-module _ (run : Fixed) (spelling : Spelling) (event : Event) (past : List Event) (ticket lane : ℕ)
+module _ (run : Fixed) (event : Event) (past : List Event) (ticket lane : ℕ)
     (names : HasNames run) (real : is_preview run.mode ≡ false) (other : is_refresh run.mode ≡ false)
-    (sound : IsSound (rows_of run)) (named : NameProviders (rows_of run)) (legal : IsLegal run spelling (event ∷ past)) where
+    (sound : IsSound (rows_of run)) (named : NameProviders (rows_of run)) (orderly : IsOrderly run (event ∷ past)) where
   abbrev before : Known
   before = known_of run past
 
@@ -46,12 +48,12 @@ module _ (run : Fixed) (spelling : Spelling) (event : Event) (past : List Event)
   merged = new_entries (known_of run past) ++ old_entries (known_of run past)
 
   due_of : (about : Op) → event.what ≡ Begun ticket lane about → is_due_on before about lane ≡ true
-  due_of about says = (subst (λ (what : What). MayHappen spelling before event.seat what) says legal.1).due
+  due_of about says = (subst (λ (what : What). MayHappen before event.seat what) says orderly.1).due
 
   entries_are : (about : Op) → event.what ≡ Begun ticket lane about → (state_of run (event ∷ past)).entries ≡ merged
   entries_are about says =
       begun-entries run event past ticket lane about says other
-      ∙ entries_merged run spelling past names real (sound-apart (rows_of run) sound) legal.0 other
+      ∙ entries_merged run past names real (sound-apart (rows_of run) sound) orderly.0 other
 
   covers : (about : Op) (kind : PendingKind) (entry : Entry) → event.what ≡ Begun ticket lane about
       → pending_for before about ≡ Some (pending_of_kind kind entry) → CoversKind kind merged entry
@@ -60,7 +62,7 @@ module _ (run : Fixed) (spelling : Spelling) (event : Event) (past : List Event)
     pending_of_kind kind entry,
     opens,
     record {
-      stands = begun-pending run spelling event past ticket lane about (pending_of_kind kind entry) legal says opens;
+      stands = begun-pending run event past ticket lane about (pending_of_kind kind entry) orderly says opens;
       kind = subst (λ (entries : List Entry). CoversKind kind entries entry) (sym (entries_are about says)) has;
     },
   )
@@ -74,7 +76,7 @@ module _ (run : Fixed) (spelling : Spelling) (event : Event) (past : List Event)
       (ap (λ (o : Option Goal). pending_with Creating (option_and_then (λ (it : Goal). option_map (λ (own : Decided). goal_entry before it own (result_with None [] []))
       (decided_goal before number)) o)) placed.stands
       ∙ ap (λ (o : Option Decided). pending_with Creating (option_map (λ (own : Decided). goal_entry before goal own (result_with None [] [])) o)) placed.decided)
-      (references-found run spelling past names legal.0 number goal entry placed.stands placed.references refl refl refl)
+      (references-found run past names orderly.0 number goal entry placed.stands placed.references refl refl refl)
 
   changed_covered : (number : ℕ) → event.what ≡ Begun ticket lane (op.Update (subject.Goal number))
       → Covers run past (op.Update (subject.Goal number)) (state_of run (event ∷ past))
@@ -84,7 +86,7 @@ module _ (run : Fixed) (spelling : Spelling) (event : Event) (past : List Event)
       covers (op.Update (subject.Goal number)) Updating entry says
       (ap (λ (o : Option Goal). pending_with Updating (option_and_then (λ (it : Goal). option_map (updating_result before it) (decided_goal before number)) o)) placed.stands
       ∙ ap (λ (o : Option Decided). pending_with Updating (option_map (updating_result before goal) o)) placed.decided)
-      (references-found run spelling past names legal.0 number goal entry placed.stands placed.references refl refl refl)
+      (references-found run past names orderly.0 number goal entry placed.stands placed.references refl refl refl)
 
   deleted_covered : (place : ℕ) → event.what ≡ Begun ticket lane (op.Delete (subject.Row place))
       → Covers run past (op.Delete (subject.Row place)) (state_of run (event ∷ past))
@@ -97,8 +99,8 @@ module _ (run : Fixed) (spelling : Spelling) (event : Event) (past : List Event)
       let here : slice_get (rows_of run) place ≡ Some row.0 =
       ap (λ (fixed : Fixed). slice_get (rows_of fixed) place) (sym (run_of run past)) ∙ row.1 in
       covers about Deleting (row_now before place row.0) says
-      (ap (λ (o : Option Entry). pending_with Deleting o) (row-found run spelling past names real sound named legal.0 place row.0 here ready))
-      (deletion-found run spelling past names real sound named legal.0 place row.0 here ready)
+      (ap (λ (o : Option Entry). pending_with Deleting o) (row-found run past names real sound named orderly.0 place row.0 here ready))
+      (deletion-found run past names real sound named orderly.0 place row.0 here ready)
 
   -- what is asked of nothing that it could be about is never due
   never : (about : Op) → event.what ≡ Begun ticket lane about → is_asked before about ≡ false

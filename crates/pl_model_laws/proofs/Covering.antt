@@ -9,23 +9,24 @@ use Rattle.std.proofs.lemmas.Option.{slice_get_within}
 use Rattle.std.specs.List.{cons_option, list_all, list_any, range_with_len}
 use Rattle.pl_state.specs.Chain.{refers_to}
 use Rattle.pl_state.specs.References.{finds_references, further_urns, has_urn, is_provider, optional_refs}
-use Rattle.pl_state.specs.Sound.{IsSound, is_met}
+use Rattle.pl_sound.specs.Sound.{IsSound, is_met}
 use Rattle.pl_state.specs.declared.entry.Entry.{Entry}
 use Rattle.pl_state.specs.declared.fault.Missing.TheVariants.{Parent, Provider}
 use Rattle.pl_state.specs.declared.goal.Goal.{Goal}
 use Rattle.pl_events.specs.declared.event.Event.{Event}
-use Rattle.pl_model.specs.Run.{Fixed, HasNames, Spelling, is_preview, is_refresh, rows_of}
+use Rattle.pl_model.specs.declared.fixed.Fixed.{Fixed}
+use Rattle.pl_model.specs.Run.{HasNames, is_preview, is_refresh, rows_of}
 use Rattle.pl_model.specs.Claims.{goal_number}
 use Rattle.pl_model.specs.Covers.{IsWithout}
 use Rattle.pl_model.specs.Due.{is_delete_ready, is_recorded_urn, is_removable, none_or, references_recorded}
 use Rattle.pl_model.specs.Entries.{new_entries, old_entries, old_row, recorded_entry, reference_to, row_now}
 use Rattle.pl_model.specs.History.{known_of}
 use Rattle.pl_model.specs.Known.{Known, goal_at, is_recorded, provider_id}
-use Rattle.pl_model.specs.Legal.{IsLegal}
+use Rattle.pl_model.specs.Legal.{IsOrderly}
 use Rattle.pl_model.specs.Recording.{recorded_of}
 use Rattle.pl_model.specs.Rows.{has_dependents, is_doomed, is_left, row_numbers}
 use Rattle.pl_model_laws.specs.Apart.{AreApart, KeepsApart}
-use Rattle.pl_model_laws.specs.Soundness.{NameProviders}
+use Rattle.pl_model.specs.RunData.{NameProviders}
 use Rattle.pl_model_laws.proofs.Dependents.{depended}
 use Rattle.pl_model_laws.proofs.Founding.{all_back, held, old_is}
 use Rattle.pl_model_laws.proofs.Growing.{equal_numbers, run_of, same_number}
@@ -43,8 +44,8 @@ use Rattle.pl_model_laws.proofs.Wants.{found_by_met, met_by_tests}
 
 -- ---- references
 
-module _ (run : Fixed) (spelling : Spelling) (history : List Event) (names : HasNames run)
-    (legal : IsLegal run spelling history) where
+module _ (run : Fixed) (history : List Event) (names : HasNames run)
+    (orderly : IsOrderly run history) where
   abbrev known : Known
   known = known_of run history
 
@@ -52,10 +53,10 @@ module _ (run : Fixed) (spelling : Spelling) (history : List Event) (names : Has
   entries = new_entries (known_of run history) ++ old_entries (known_of run history)
 
   provide : ProvidersProvide known
-  provide = providers-provide run spelling history names legal
+  provide = providers-provide run history names orderly
 
   standing_of : (number : ℕ) (goal : Goal) → is_recorded known number ≡ true → goal_at known number ≡ Some goal → Standing known number goal
-  standing_of = recorded_stands run spelling history legal (held run spelling history legal provide) recorded-after-references provide
+  standing_of = recorded_stands run history orderly (held run history orderly provide) recorded-after-references provide
 
   -- a test that the entry of a recorded goal passes
   among_new : (test : Entry → Bool) (number : ℕ) (row : Entry) → is_recorded known number ≡ true → recorded_entry known number ≡ Some row
@@ -78,11 +79,11 @@ module _ (run : Fixed) (spelling : Spelling) (history : List Event) (names : Has
   provider_found : (number own : ℕ) (goal : Goal) → goal_at known number ≡ Some goal → goal.provider ≡ Some own → is_recorded known own ≡ true
       → list_all (is_met entries) (optional_refs Provider (reference_to known own)) ≡ true
   provider_found number own goal here names recorded =
-      let there = recorded-held run spelling history own legal recorded in
+      let there = recorded-held run history own orderly recorded in
       let other : Goal = there.0 in
       let at : goal_at known own ≡ Some other = there.2.stands in
       let standing = standing_of own other recorded at in
-      let ids = provider-id run spelling history own other standing.one standing.result legal recorded
+      let ids = provider-id run history own other standing.one standing.result orderly recorded
       (provide number own goal other here names at) at standing.decided standing.recording in
       let text = some_there (provider_id known own) ids.1 in
       let id : standing.row.id ≡ Some text.0 = standing.stands.id ∙ ids.0 ∙ text.1 in
@@ -195,9 +196,9 @@ split_at test number a (suc n) passes low high =
 
 -- ---- the row that goes
 
-module _ (run : Fixed) (spelling : Spelling) (history : List Event)
+module _ (run : Fixed) (history : List Event)
     (names : HasNames run) (real : is_preview run.mode ≡ false)
-    (sound : IsSound (rows_of run)) (named : NameProviders (rows_of run)) (legal : IsLegal run spelling history)
+    (sound : IsSound (rows_of run)) (named : NameProviders (rows_of run)) (orderly : IsOrderly run history)
     (place : ℕ) (entry : Entry) (here : slice_get (rows_of run) place ≡ Some entry)
     (ready : is_delete_ready (known_of run history) place ≡ true) where
   abbrev now : Known
@@ -245,7 +246,7 @@ module _ (run : Fixed) (spelling : Spelling) (history : List Event)
 
   -- this row as it stands now
   pub row-found : old_row now place ≡ Some (row_now now place entry)
-  row-found = old_is run spelling history real sound named legal stays left_so closed place entry here
+  row-found = old_is run history real sound named orderly stays left_so closed place entry here
 
   parts : Split (is_left now) place (row_numbers now)
   parts =
@@ -286,13 +287,13 @@ module _ (run : Fixed) (spelling : Spelling) (history : List Event)
       (subst (λ (rows : List Entry). Pairwise AreApart rows) (sym rest_is)
       (pairs_without AreApart front_entries row behind_entries
       (subst (λ (rows : List Entry). Pairwise AreApart rows) whole_is
-      (merged_pairs run spelling history names real (sound-apart (rows_of run) sound) legal))))
+      (merged_pairs run history names real (sound-apart (rows_of run) sound) orderly))))
 
   others_sound : IsSound others
   others_sound =
       sound-from others
-      (all_back run spelling history real sound named legal stays left_so closed recorded-after-references
-      (providers-provide run spelling history names legal))
+      (all_back run history real sound named orderly stays left_so closed recorded-after-references
+      (providers-provide run history names orderly))
       others_apart
 
   -- without a row whose deletion is due, the entries are sound

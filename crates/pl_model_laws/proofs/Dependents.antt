@@ -10,14 +10,17 @@ use Rattle.pl_events.specs.declared.operation.Op.{Op}
 use Rattle.pl_events.specs.declared.operation.Op.TheVariants as op
 use Rattle.pl_events.specs.declared.operation.Subject.TheVariants as subject
 use Rattle.pl_events.specs.declared.reply.Reply.{Reply}
-use Rattle.pl_model.specs.Run.{Fixed, Spelling, rows_of}
-use Rattle.pl_model.specs.Due.{is_due, is_due_on, is_removable, to_drop}
+use Rattle.pl_model.specs.declared.errand.Errand.{Errand}
+use Rattle.pl_model.specs.declared.fixed.Fixed.{Fixed}
+use Rattle.pl_model.specs.declared.work.Work.TheVariants.{Drop as to_drop}
+use Rattle.pl_model.specs.Run.{rows_of}
+use Rattle.pl_model.specs.Due.{is_due, is_due_on, is_removable}
 use Rattle.pl_model.specs.History.{known_of}
 use Rattle.pl_model.specs.Known.{Known}
-use Rattle.pl_model.specs.Legal.{IsLegal, MayHappen}
+use Rattle.pl_model.specs.Legal.{IsOrderly, MayHappen}
 use Rattle.pl_model.specs.Recording.{has_number, is_removed, only_if, removed_by, removed_of, row_of_delete}
 use Rattle.pl_model.specs.Rows.{has_dependents, is_left, is_taken_out, is_taken_over}
-use Rattle.pl_model.specs.Tickets.{Errand, begun_of, errand_at, same_op, was_begun}
+use Rattle.pl_model.specs.Tickets.{begun_of, errand_at, same_op, was_begun}
 use Rattle.pl_model_laws.proofs.Growing.{equal_numbers, or_true, run_of}
 use Rattle.pl_model_laws.proofs.Leaving.{left_parts}
 use Rattle.pl_model_laws.proofs.Once.{equal_ops}
@@ -74,7 +77,7 @@ module _ (known : Known) (later earlier : ℕ) (refers : refers_to (rows_of know
 
 -- ---- the laws
 
-module _ (run : Fixed) (spelling : Spelling) (later earlier : ℕ) (refers : refers_to (rows_of run) later earlier ≡ true) where
+module _ (run : Fixed) (later earlier : ℕ) (refers : refers_to (rows_of run) later earlier ≡ true) where
   abbrev deletes : Op
   deletes = op.Delete (subject.Row earlier)
 
@@ -96,18 +99,18 @@ module _ (run : Fixed) (spelling : Spelling) (later earlier : ℕ) (refers : ref
 
   -- no event begins the deletion
   begun_step : (seat : ℕ) (what : What) (past : List Event) → is_left (known_of run past) later ≡ true
-      → MayHappen spelling (known_of run past) seat what → was_begun past deletes ≡ false
+      → MayHappen (known_of run past) seat what → was_begun past deletes ≡ false
       → was_begun (record { seat = seat; what = what } ∷ past) deletes ≡ false
   begun_step seat (Begun ticket lane about) past left may never = began ticket seat lane about past left may.due never
   begun_step seat _ past left may never = never
 
   -- no deletion is begun while a later row that refers to the row is left
-  pub deleted_last : (history : List Event) → IsLegal run spelling history → is_left (known_of run history) later ≡ true
+  pub deleted_last : (history : List Event) → IsOrderly run history → is_left (known_of run history) later ≡ true
       → was_begun history deletes ≡ false
-  deleted_last [] legal left = refl
-  deleted_last (event ∷ past) legal left =
-      let before : is_left (known_of run past) later ≡ true = left-before run spelling event past legal later left in
-      begun_step event.seat event.what past before legal.1 (deleted_last past legal.0 before)
+  deleted_last [] orderly left = refl
+  deleted_last (event ∷ past) orderly left =
+      let before : is_left (known_of run past) later ≡ true = left-before run event past orderly later left in
+      begun_step event.seat event.what past before orderly.1 (deleted_last past orderly.0 before)
 
   -- an operation other than the deletion takes out another row, or none
   removed_op : (about : Op) (b : Bool) (rows : List ℕ) → same_op about deletes ≡ false → has_number rows earlier ≡ false
@@ -160,7 +163,7 @@ module _ (run : Fixed) (spelling : Spelling) (later earlier : ℕ) (refers : ref
 
   -- no event takes the row out
   gone_step : (seat : ℕ) (what : What) (past : List Event) → is_left (known_of run past) later ≡ true
-      → MayHappen spelling (known_of run past) seat what → was_begun past deletes ≡ false
+      → MayHappen (known_of run past) seat what → was_begun past deletes ≡ false
       → has_number (removed_of past) earlier ≡ false
       → has_number (removed_of (record { seat = seat; what = what } ∷ past)) earlier ≡ false
   gone_step seat (Answered ticket reply) past left may never stays = replied seat ticket reply past never stays
@@ -168,9 +171,9 @@ module _ (run : Fixed) (spelling : Spelling) (later earlier : ℕ) (refers : ref
   gone_step seat _ past left may never stays = stays
 
   -- no row is taken out while a later row that refers to it is left
-  pub gone_last : (history : List Event) → IsLegal run spelling history → is_left (known_of run history) later ≡ true
+  pub gone_last : (history : List Event) → IsOrderly run history → is_left (known_of run history) later ≡ true
       → has_number (removed_of history) earlier ≡ false
-  gone_last [] legal left = refl
-  gone_last (event ∷ past) legal left =
-      let before : is_left (known_of run past) later ≡ true = left-before run spelling event past legal later left in
-      gone_step event.seat event.what past before legal.1 (deleted_last past legal.0 before) (gone_last past legal.0 before)
+  gone_last [] orderly left = refl
+  gone_last (event ∷ past) orderly left =
+      let before : is_left (known_of run past) later ≡ true = left-before run event past orderly later left in
+      gone_step event.seat event.what past before orderly.1 (deleted_last past orderly.0 before) (gone_last past orderly.0 before)

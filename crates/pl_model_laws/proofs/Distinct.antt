@@ -20,11 +20,13 @@ use Rattle.pl_events.specs.declared.event.What.{What}
 use Rattle.pl_events.specs.declared.event.What.TheVariants.{Told}
 use Rattle.pl_decide.specs.declared.problem.Problem.{Problem}
 use Rattle.pl_decide.specs.declared.problem.Problem.TheVariants.{BadOption, DuplicateUrn, UnknownReference}
-use Rattle.pl_model.specs.Run.{Fixed, HasNames, Spelling, has_host}
+use Rattle.pl_model.specs.declared.fixed.Fixed.{Fixed}
+use Rattle.pl_model.specs.declared.heard.Fate.TheVariants.{Halted as halted}
+use Rattle.pl_model.specs.Run.{HasNames, has_host}
 use Rattle.pl_model.specs.Claims.{goal_number, numbered}
 use Rattle.pl_model.specs.History.{goals_after, known_of}
-use Rattle.pl_model.specs.Known.{halted, Known, goal_at, has_problem}
-use Rattle.pl_model.specs.Legal.{IsLegal, MayHappen}
+use Rattle.pl_model.specs.Known.{Known, goal_at, has_problem}
+use Rattle.pl_model.specs.Legal.{IsOrderly, MayHappen}
 use Rattle.pl_model.specs.Requests.{default_goal, default_urn, fate_by, fate_of, first_in, goal_refusal, goals_by, goals_made, has_goal, invoked_version, is_bad_default, named_provider, refusal_of, refused_if, result_refusal, unknown_references, uses_default, with_default, with_goal, with_invoked, with_provider, with_result}
 use Rattle.pl_model_laws.proofs.Growing.{equal_numbers, run_of}
 use Rattle.pl_model_laws.proofs.Once.{and_left, and_right, not_true}
@@ -204,7 +206,7 @@ module _ (known : Known) (in_stack : IsScope known.run.stack) (in_project : IsSc
       by false None is = apart_made request is
       by false (Some problem) is = apart
 
--- ---- legal histories
+-- ---- orderly histories
 
 -- where a request is told there is a host
 hosted : (hosting ended : Bool) → (not hosting || ended) ≡ false → hosting ≡ true
@@ -212,33 +214,33 @@ hosted true ended h = refl
 hosted false ended h = absurd (let e : true ≡ false = h in cc)
 
 -- so stack and project have names that stand in a URN
-pub told-names : (spelling : Spelling) (known : Known) (seat : ℕ) (request : Request) → HasNames known.run
-    → MayHappen spelling known seat (Told request) → IsScope known.run.stack × IsScope known.run.project
-told-names spelling known seat request names may = names (hosted (has_host known.run.mode) (has_host_end known.history) may.host_open)
+pub told-names : (known : Known) (seat : ℕ) (request : Request) → HasNames known.run
+    → MayHappen known seat (Told request) → IsScope known.run.stack × IsScope known.run.project
+told-names known seat request names may = names (hosted (has_host known.run.mode) (has_host_end known.history) may.host_open)
 
 -- the names are those of the run, whatever happened
 pub names-there : (run : Fixed) (history : List Event) → HasNames run → HasNames (known_of run history).run
 names-there run history names = subst (λ (fixed : Fixed). HasNames fixed) (sym (run_of run history)) names
 
 -- one event more
-apart_after : (spelling : Spelling) (known : Known) (seat : ℕ) (what : What) → HasNames known.run → MayHappen spelling known seat what
+apart_after : (known : Known) (seat : ℕ) (what : What) → HasNames known.run → MayHappen known seat what
     → IsApart known.goals → IsApart (goals_after known what)
-apart_after spelling known seat (Told request) names may apart =
-    let scopes = told-names spelling known seat request names may in
+apart_after known seat (Told request) names may apart =
+    let scopes = told-names known seat request names may in
     apart_told known scopes.0 scopes.1 apart request
-apart_after spelling known seat _ names may apart = apart
+apart_after known seat _ names may apart = apart
 
--- the goals of every legal history have URNs of their own
-pub apart_of : (run : Fixed) (spelling : Spelling) (history : List Event) → HasNames run → IsLegal run spelling history
+-- the goals of every orderly history have URNs of their own
+pub apart_of : (run : Fixed) (history : List Event) → HasNames run → IsOrderly run history
     → IsApart (known_of run history).goals
 unfolding known_of
-apart_of run spelling [] names legal = tt
-apart_of run spelling (event ∷ past) names legal =
-    apart_after spelling (known_of run past) event.seat event.what (names-there run past names) legal.1 (apart_of run spelling past names legal.0)
+apart_of run [] names orderly = tt
+apart_of run (event ∷ past) names orderly =
+    apart_after (known_of run past) event.seat event.what (names-there run past names) orderly.1 (apart_of run past names orderly.0)
 
 -- no two goals have the same URN
-pub goals-apart : (run : Fixed) (spelling : Spelling) (history : List Event) (one other : ℕ) (first second : Goal)
-    → HasNames run → IsLegal run spelling history
+pub goals-apart : (run : Fixed) (history : List Event) (one other : ℕ) (first second : Goal)
+    → HasNames run → IsOrderly run history
     → goal_at (known_of run history) one ≡ Some first → goal_at (known_of run history) other ≡ Some second → first.urn ≡ second.urn → one ≡ other
-goals-apart run spelling history one other first second names legal =
-    apart_numbers (known_of run history).goals (apart_of run spelling history names legal) one other first second
+goals-apart run history one other first second names orderly =
+    apart_numbers (known_of run history).goals (apart_of run history names orderly) one other first second

@@ -9,10 +9,11 @@ use Rattle.pl_events.specs.declared.event.Event.{Event}
 use Rattle.pl_decide.specs.Permits.{is_wanted}
 use Rattle.pl_decide.specs.declared.problem.Problem.{Problem}
 use Rattle.pl_decide.specs.declared.problem.Problem.TheVariants as problem
-use Rattle.pl_model.specs.Run.{Fixed, Spelling, is_destroy, is_preview, is_refresh, rows_of}
+use Rattle.pl_model.specs.declared.fixed.Fixed.{Fixed}
+use Rattle.pl_model.specs.Run.{is_destroy, is_preview, is_refresh, rows_of}
 use Rattle.pl_model.specs.History.{known_of}
 use Rattle.pl_model.specs.Known.{Known, has_problem, host_ended, is_over, known_by}
-use Rattle.pl_model.specs.Legal.{IsLegal}
+use Rattle.pl_model.specs.Legal.{IsOrderly}
 use Rattle.pl_model.specs.Problems.{end_problems, ends_well, first_row, holds_doomed, is_unpermitted, lacks_provider, limit_problem, made_problems, refresh_problems, row_problem, start_problems}
 use Rattle.pl_state.specs.References.{option_list}
 use Rattle.pl_model.specs.Requests.{first_in}
@@ -31,9 +32,9 @@ use Rattle.pl_model_laws.proofs.Troubles.{and_made, or_first}
 -- ---- where the run became over
 
 -- a history before this one at which the run is over without a problem; what is left now was left there
-pub record IsEnded (run : Fixed) (spelling : Spelling) (past : List Event) (known : Known) : Type 0 where
+pub record IsEnded (run : Fixed) (past : List Event) (known : Known) : Type 0 where
   pub later : Later run past known
-  pub legal : IsLegal run spelling past
+  pub orderly : IsOrderly run past
   pub over : is_over (known_of run past) ≡ true
   pub left : (row : ℕ) → is_left known row ≡ true → is_left (known_of run past) row ≡ true
   pub clean : end_problems (known_of run past) ≡ []
@@ -78,34 +79,34 @@ newly_clean run event past calm over going =
     sym (ap (λ (b : Bool). if b then end_problems after else []) well) ∙ no-end run event past calm
 
 -- where no problem stands, a run that is over became so without one
-pub over-clean : (run : Fixed) (spelling : Spelling) (history : List Event) → IsLegal run spelling history → is_refresh run.mode ≡ false
+pub over-clean : (run : Fixed) (history : List Event) → IsOrderly run history → is_refresh run.mode ≡ false
     → has_problem (known_of run history) ≡ false → is_over (known_of run history) ≡ true
-    → (past : List Event) × IsEnded run spelling past (known_of run history)
-over-clean run spelling [] legal other calm over = (
+    → (past : List Event) × IsEnded run past (known_of run history)
+over-clean run [] orderly other calm over = (
   [],
   record {
     later = later-now run [];
-    legal = legal;
+    orderly = orderly;
     over = over;
     left = λ row h. h;
     clean = start_clean run other calm over;
   },
 )
-over-clean run spelling (event ∷ past) legal other calm over =
-    by (is_over (known_of run past)) refl (over-clean run spelling past legal.0 other (calm-before run event past calm))
+over-clean run (event ∷ past) orderly other calm over =
+    by (is_over (known_of run past)) refl (over-clean run past orderly.0 other (calm-before run event past calm))
   where
     by : (b : Bool) → is_over (known_of run past) ≡ b
-        → (is_over (known_of run past) ≡ true → (first : List Event) × IsEnded run spelling first (known_of run past))
-        → (first : List Event) × IsEnded run spelling first (known_of run (event ∷ past))
+        → (is_over (known_of run past) ≡ true → (first : List Event) × IsEnded run first (known_of run past))
+        → (first : List Event) × IsEnded run first (known_of run (event ∷ past))
     by true is rest =
         let found = rest is in (
           found.0,
           record {
             later = later-through run past found.0 (known_of run (event ∷ past)) (and_left (host_ended (known_of run past)) _ is) found.1.later
-                (later-before run spelling event past (known_of run (event ∷ past)) legal.1 (later-now run (event ∷ past)));
-            legal = found.1.legal;
+                (later-before run event past (known_of run (event ∷ past)) orderly.1 (later-now run (event ∷ past)));
+            orderly = found.1.orderly;
             over = found.1.over;
-            left = λ row h. found.1.left row (left-before run spelling event past legal row h);
+            left = λ row h. found.1.left row (left-before run event past orderly row h);
             clean = found.1.clean;
           },
         )
@@ -113,7 +114,7 @@ over-clean run spelling (event ∷ past) legal other calm over =
       event ∷ past,
       record {
         later = later-now run (event ∷ past);
-        legal = legal;
+        orderly = orderly;
         over = over;
         left = λ row h. h;
         clean = newly_clean run event past calm over is;
@@ -220,7 +221,7 @@ held_target known later earlier permitted left refers doomed = by (is_destroy kn
         else first_row known problem.NotPermitted (is_unpermitted known))) is) ∙ permitted)
         (row_at known later) refl (cases (rows_of known.run) later)
 
-module _ (run : Fixed) (spelling : Spelling) (history : List Event) (legal : IsLegal run spelling history) where
+module _ (run : Fixed) (history : List Event) (orderly : IsOrderly run history) where
   abbrev known : Known
   known = known_of run history
 
@@ -229,7 +230,7 @@ module _ (run : Fixed) (spelling : Spelling) (history : List Event) (legal : IsL
   row_then past row = ap (λ (fixed : Fixed). slice_get (rows_of fixed) row) (run_of run past ∙ sym (run_of run history))
 
   -- a doomed row was doomed where the run became over
-  doomed_then : (past : List Event) → IsEnded run spelling past known → (row : ℕ) → is_doomed known row ≡ true
+  doomed_then : (past : List Event) → IsEnded run past known → (row : ℕ) → is_doomed known row ≡ true
       → is_doomed (known_of run past) row ≡ true
   doomed_then past ended row h =
       let parts = doomed-parts known row h in
@@ -253,7 +254,7 @@ module _ (run : Fixed) (spelling : Spelling) (history : List Event) (legal : IsL
   pub end-unprotected : has_problem known ≡ false → is_over known ≡ true → (row : ℕ) (entry : Entry)
       → is_doomed known row ≡ true → row_at known row ≡ Some entry → entry.protect ≡ false
   end-unprotected calm over row entry doomed at =
-      let found = over-clean run spelling history legal (other_mode row doomed) calm over in
+      let found = over-clean run history orderly (other_mode row doomed) calm over in
       let told : Known = known_of run found.0 in
       let clean = clean_parts told found.1.clean in
       second_fails (is_doomed told row) entry.protect
@@ -264,10 +265,10 @@ module _ (run : Fixed) (spelling : Spelling) (history : List Event) (legal : IsL
   pub end-provided : is_preview run.mode ≡ false → KeepsApart (rows_of run) → has_problem known ≡ false → is_over known ≡ true
       → (row : ℕ) (entry : Entry) → is_doomed known row ≡ true → row_at known row ≡ Some entry → lacks_provider known row ≡ false
   end-provided real apart calm over row entry doomed at =
-      let found = over-clean run spelling history legal (other_mode row doomed) calm over in
+      let found = over-clean run history orderly (other_mode row doomed) calm over in
       let told : Known = known_of run found.0 in
       let clean = clean_parts told found.1.clean in
-      provided-later run spelling history legal found.0 found.1.later found.1.legal real apart row (doomed-parts known row doomed).left
+      provided-later run history orderly found.0 found.1.later found.1.orderly real apart row (doomed-parts known row doomed).left
       (second_fails (is_doomed told row) (lacks_provider told row)
       (row_fails told problem.MissingProvider (λ number it. is_doomed told number && lacks_provider told number) row entry clean.provided
       (row_then found.0 row ∙ at))
@@ -277,7 +278,7 @@ module _ (run : Fixed) (spelling : Spelling) (history : List Event) (legal : IsL
   pub end-held : has_problem known ≡ false → is_over known ≡ true → (later earlier : ℕ) → is_left known later ≡ true
       → refers_to (rows_of run) later earlier ≡ true → is_doomed known earlier ≡ true → is_target known later ≡ true
   end-held calm over later earlier left refers doomed =
-      let found = over-clean run spelling history legal (other_mode earlier doomed) calm over in
+      let found = over-clean run history orderly (other_mode earlier doomed) calm over in
       let told : Known = known_of run found.0 in
       let clean = clean_parts (known_of run found.0) found.1.clean in
       let there : refers_to (rows_of told.run) later earlier ≡ true =

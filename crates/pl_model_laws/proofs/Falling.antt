@@ -10,17 +10,21 @@ use Rattle.pl_events.specs.declared.operation.Op.{Op}
 use Rattle.pl_events.specs.declared.operation.Op.TheVariants as op
 use Rattle.pl_events.specs.declared.operation.Source.{Source}
 use Rattle.pl_events.specs.declared.operation.Subject.TheVariants as subject
-use Rattle.pl_model.specs.Run.{Fixed, Spelling, is_preview, is_refresh, rows_of}
-use Rattle.pl_model.specs.Decisions.{is_refused}
-use Rattle.pl_model.specs.Due.{goal_numbers, has_open, is_asked, is_checked_lane, is_clear_ready, is_due, is_keep_ready, is_lane_of, is_next_lane, is_placed, is_post_due, is_ready, is_ready_on, is_settled, is_settled_request, is_wanted_op, keeps_goal, op_of_goal, passes_limit, pending_numbers, provider_stands, references_recorded, request_numbers, to_clear, to_drop, to_keep, to_send, urn_is_free, wants_lane}
+use Rattle.pl_model.specs.declared.errand.Errand.{Errand}
+use Rattle.pl_model.specs.declared.fixed.Fixed.{Fixed}
+use Rattle.pl_model.specs.declared.heard.Heard.{Heard}
+use Rattle.pl_model.specs.declared.work.Work.TheVariants.{Clear as to_clear, Drop as to_drop, Keep as to_keep, Send as to_send}
+use Rattle.pl_model.specs.Run.{is_preview, is_refresh, rows_of}
+use Rattle.pl_decide.specs.Limited.{is_refused}
+use Rattle.pl_model.specs.Due.{goal_numbers, has_open, is_asked, is_checked_lane, is_clear_ready, is_due, is_keep_ready, is_lane_of, is_next_lane, is_placed, is_post_due, is_ready, is_ready_on, is_settled, is_settled_request, is_wanted_op, keeps_goal, op_of_goal, passes_limit, pending_numbers, provider_stands, references_recorded, request_numbers, urn_is_free, wants_lane}
 use Rattle.pl_model.specs.History.{known_after, known_of}
-use Rattle.pl_model.specs.Known.{Asked, Known, asked_at, has_problem, is_recorded}
+use Rattle.pl_model.specs.Known.{Known, asked_at, has_problem, is_recorded}
 use Rattle.pl_model.specs.Left.{all_operations, left_of, sources_of, times_begun}
-use Rattle.pl_model.specs.Legal.{IsLegal, MayHappen}
+use Rattle.pl_model.specs.Legal.{IsOrderly, MayHappen}
 use Rattle.pl_model.specs.Recording.{cleared_by, cleared_of, has_number, posted_in, posted_of, recorded_by, recorded_of, removed_by, removed_of}
 use Rattle.pl_model.specs.Rows.{pending_at, row_numbers}
 use Rattle.pl_model.specs.State.{is_cleared, is_found}
-use Rattle.pl_model.specs.Tickets.{Errand, begun_of, errand_of, lane_count, lanes_from, reply_to, same_op, same_source, was_begun}
+use Rattle.pl_model.specs.Tickets.{begun_of, errand_of, lane_count, lanes_from, reply_to, same_op, same_source, was_begun}
 use Rattle.std.proofs.lemmas.Option.{slice_get_within}
 use Rattle.pl_model_laws.specs.Falling.{is_told, is_work}
 use Rattle.pl_model_laws.specs.Laws.{is_configure}
@@ -353,10 +357,10 @@ module _ (known : Known) (seat : ℕ) where
       (now_done (has_number (posted_of known.history) n) (has_number (n ∷ posted_of known.history) n) new
       (ap (λ (b : Bool). b || has_number (posted_of known.history) n) (same_number n))))
     where
-      answered : Asked → Bool
+      answered : Heard → Bool
       answered asked = is_settled_request known asked || (has_problem known && not (has_open known))
 
-      there : (asked : Asked) × (asked_at known n ≡ Some asked) × (answered asked ≡ true)
+      there : (asked : Heard) × (asked_at known n ≡ Some asked) × (answered asked ≡ true)
       there =
           passes_some answered (asked_at known n)
           (and_right (not (has_number (posted_of known.history) n)) (some_passes answered (asked_at known n)) due)
@@ -368,10 +372,10 @@ module _ (known : Known) (seat : ℕ) where
 
 -- ---- the law
 
-falls_step : (run : Fixed) (spelling : Spelling) (past : List Event) (seat : ℕ) (what : What) → 0 < run.parallel
-    → IsLegal run spelling past → MayHappen spelling (known_of run past) seat what → is_work what ≡ true
+falls_step : (run : Fixed) (past : List Event) (seat : ℕ) (what : What) → 0 < run.parallel
+    → IsOrderly run past → MayHappen (known_of run past) seat what → is_work what ≡ true
     → left_of (known_after (record { seat = seat; what = what }) (known_of run past)) < left_of (known_of run past)
-falls_step run spelling past seat (Begun ticket lane about) some legal may h = by (is_configure about) refl
+falls_step run past seat (Begun ticket lane about) some orderly may h = by (is_configure about) refl
   where
     ready : is_ready_on (known_of run past) about lane ≡ true
     ready = and_left (is_ready_on (known_of run past) about lane) (not (passes_limit (known_of run past) (to_send about))) may.due
@@ -381,7 +385,7 @@ falls_step run spelling past seat (Begun ticket lane about) some legal may h = b
     room provider due =
         lane_room (known_of run past) provider lane (subst (λ (fixed : Fixed). 0 < fixed.parallel) (sym (run_of run past)) some)
         (subst (λ (events : List Event). times_begun events (op.Configure provider) ≤ length (lanes_from events provider))
-        (sym (history_of run past)) (lanes-fit run spelling provider past legal)) due
+        (sym (history_of run past)) (lanes-fit run provider past orderly)) due
 
     by : (b : Bool) → is_configure about ≡ b
         → left_of (known_after (record { seat = seat; what = Begun ticket lane about }) (known_of run past)) < left_of (known_of run past)
@@ -392,15 +396,15 @@ falls_step run spelling past seat (Begun ticket lane about) some legal may h = b
         subst (λ (one : Op). is_ready_on (known_of run past) one lane ≡ true) own.1 ready in
         subst (λ (one : Op). left_of (known_after (record { seat = seat; what = Begun ticket lane one }) (known_of run past)) < left_of (known_of run past))
         (sym own.1)
-        (configure_falls (known_of run past) seat ticket lane own.0 (provider-listed run spelling past own.0 lane legal due) (room own.0 due))
-falls_step run spelling past seat (Kept number fresh) some legal may h = kept_falls (known_of run past) seat number fresh may.due
-falls_step run spelling past seat (Dropped row) some legal may h = dropped_falls (known_of run past) seat row may
-falls_step run spelling past seat (Cleared at) some legal may h = cleared_falls (known_of run past) seat at may
-falls_step run spelling past seat (Posted n) some legal may h = posted_falls (known_of run past) seat n may
-falls_step run spelling past seat _ some legal may h = absurd (let e : false ≡ true = h in cc)
+        (configure_falls (known_of run past) seat ticket lane own.0 (provider-listed run past own.0 lane orderly due) (room own.0 due))
+falls_step run past seat (Kept number fresh) some orderly may h = kept_falls (known_of run past) seat number fresh may.due
+falls_step run past seat (Dropped row) some orderly may h = dropped_falls (known_of run past) seat row may
+falls_step run past seat (Cleared at) some orderly may h = cleared_falls (known_of run past) seat at may
+falls_step run past seat (Posted n) some orderly may h = posted_falls (known_of run past) seat n may
+falls_step run past seat _ some orderly may h = absurd (let e : false ≡ true = h in cc)
 
-pub left-falls : (run : Fixed) (spelling : Spelling) (event : Event) (past : List Event) → 0 < run.parallel
-    → IsLegal run spelling (event ∷ past) → is_work event.what ≡ true
+pub left-falls : (run : Fixed) (event : Event) (past : List Event) → 0 < run.parallel
+    → IsOrderly run (event ∷ past) → is_work event.what ≡ true
     → left_of (known_of run (event ∷ past)) < left_of (known_of run past)
 unfolding known_of
-left-falls run spelling event past some legal h = falls_step run spelling past event.seat event.what some legal.0 legal.1 h
+left-falls run event past some orderly h = falls_step run past event.seat event.what some orderly.0 orderly.1 h

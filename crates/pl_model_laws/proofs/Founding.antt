@@ -11,25 +11,27 @@ use Rattle.pl_reference.specs.declared.reference.ProviderRef.{ProviderRef}
 use Rattle.pl_state.specs.Chain.{refers_to}
 use Rattle.pl_state.specs.Kinds.{is_of_provider, is_provider_goal, is_provider_row}
 use Rattle.pl_state.specs.References.{has_urn, is_id, is_provider, meets, names_row, refs}
-use Rattle.pl_state.specs.Sound.{IsSound, is_met}
+use Rattle.pl_sound.specs.Sound.{IsSound, is_met}
 use Rattle.pl_state.specs.declared.entry.Entry.{Entry}
 use Rattle.pl_state.specs.declared.fault.Missing.{Missing}
 use Rattle.pl_state.specs.declared.fault.Missing.TheVariants.{Twice, Parent, Provider, Dependency, DeletedWith}
 use Rattle.pl_state.specs.declared.goal.Goal.{Goal}
 use Rattle.pl_events.specs.declared.event.Event.{Event}
-use Rattle.pl_model.specs.Run.{Fixed, HasNames, Spelling, is_preview, is_refresh, rows_of}
+use Rattle.pl_model.specs.declared.decided.Decided.{Decided}
+use Rattle.pl_model.specs.declared.fixed.Fixed.{Fixed}
+use Rattle.pl_model.specs.Run.{HasNames, is_preview, is_refresh, rows_of}
 use Rattle.pl_options.specs.Names.{id_text}
-use Rattle.pl_model.specs.Claims.{Decided, claimed_row, id_of_row, is_row, is_usable, usable_id}
+use Rattle.pl_model.specs.Claims.{claimed_row, id_of_row, is_row, is_usable, usable_id}
 use Rattle.pl_model.specs.Entries.{new_entries, old_entries, old_row, recorded_entry, row_now, turnings}
 use Rattle.pl_model.specs.History.{known_of}
 use Rattle.pl_model.specs.Known.{Known, claim_of, claim_row, decided_goal, goal_at, is_recorded, provider_id}
-use Rattle.pl_model.specs.Legal.{IsLegal}
+use Rattle.pl_model.specs.Legal.{IsOrderly}
 use Rattle.pl_model.specs.Recording.{fresh_of, has_number, recorded_of, removed_of}
 use Rattle.pl_model.specs.Rows.{is_left, is_taken_over, row_at, row_numbers}
 use Rattle.pl_model.specs.State.{state_of}
 use Rattle.pl_model_laws.specs.Apart.{KeepsApart}
 use Rattle.pl_model_laws.specs.Order.{RecordedAfterReferences}
-use Rattle.pl_model_laws.specs.Soundness.{NameProviders, NamesProvider}
+use Rattle.pl_model.specs.RunData.{NameProviders, NamesProvider}
 use Rattle.pl_model_laws.proofs.Dependents.{gone_last}
 use Rattle.pl_model_laws.proofs.Growing.{or_true, run_of}
 use Rattle.pl_model_laws.proofs.Keeping.{entries_merged, merged_apart}
@@ -123,7 +125,7 @@ provider_parts reference row h = (
 
 -- ---- new entries
 
-module _ (run : Fixed) (spelling : Spelling) (history : List Event) (legal : IsLegal run spelling history)
+module _ (run : Fixed) (history : List Event) (orderly : IsOrderly run history)
     (provide : ProvidersProvide (known_of run history)) where
   abbrev known : Known
   known = known_of run history
@@ -131,9 +133,9 @@ module _ (run : Fixed) (spelling : Spelling) (history : List Event) (legal : IsL
   abbrev new_of : List ℕ → List Entry
   new_of older = filter_map (recorded_entry (known_of run history)) (reverse older)
 
-  pub held : (past : List Event) (number : ℕ) → IsLegal run spelling past → is_recorded (known_of run past) number ≡ true → Held (known_of run past) number
+  pub held : (past : List Event) (number : ℕ) → IsOrderly run past → is_recorded (known_of run past) number ≡ true → Held (known_of run past) number
   held past number lawful recorded =
-      let there = recorded-held run spelling past number lawful recorded in
+      let there = recorded-held run past number lawful recorded in
       (there.0, there.1, there.2.stands, there.2.decided, there.2.references)
 
   new_more : (number : ℕ) (older : List ℕ) → new_of (number ∷ older) ≡ new_of older ++ filter_map (recorded_entry known) (number ∷ [])
@@ -150,12 +152,12 @@ module _ (run : Fixed) (spelling : Spelling) (history : List Event) (legal : IsL
       by : (o : Option Entry) → recorded_entry known number ≡ o → RefersBack (new_of older) → RefersBack (new_of older ++ cons_option o [])
       by None found rest = subst (λ (rows : List Entry). RefersBack rows) (sym (append-nil (new_of older))) rest
       by (Some row) found rest = refers-more (new_of older) row rest
-          (met_by_tests (new_of older) row (new-met run spelling history legal held after provide newer number older is row found))
+          (met_by_tests (new_of older) row (new-met run history orderly held after provide newer number older is row found))
 
 -- ---- old entries, or those of them that are to be looked at: with each row every one that it refers to
 
-module _ (run : Fixed) (spelling : Spelling) (history : List Event) (real : is_preview run.mode ≡ false)
-    (sound : IsSound (rows_of run)) (named : NameProviders (rows_of run)) (legal : IsLegal run spelling history)
+module _ (run : Fixed) (history : List Event) (real : is_preview run.mode ≡ false)
+    (sound : IsSound (rows_of run)) (named : NameProviders (rows_of run)) (orderly : IsOrderly run history)
     (stays : ℕ → Bool) (left_so : (place : ℕ) → stays place ≡ true → is_left (known_of run history) place ≡ true)
     (closed : (later earlier : ℕ) → stays later ≡ true → refers_to (rows_of run) later earlier ≡ true
     → is_left (known_of run history) earlier ≡ true → stays earlier ≡ true) where
@@ -202,7 +204,7 @@ module _ (run : Fixed) (spelling : Spelling) (history : List Event) (real : is_p
 
   has_entry : (number : ℕ) (goal : Goal) → is_recorded now number ≡ true → goal_at now number ≡ Some goal → HasEntry number goal
   has_entry number goal recorded stands =
-      let there = recorded-held run spelling history number legal recorded in
+      let there = recorded-held run history number orderly recorded in
       let found = recording-there run history number goal there.1 recorded in
       let whole = entry-there now number goal there.1 found.0 stands there.2.decided found.1 in
       record {
@@ -211,7 +213,7 @@ module _ (run : Fixed) (spelling : Spelling) (history : List Event) (real : is_p
         decided = there.2.decided;
         entry = whole.1;
         urn = whole.2.urn;
-        id = λ provider. whole.2.id ∙ (provider-id run spelling history number goal there.1 found.0 legal recorded provider stands there.2.decided found.1).0;
+        id = λ provider. whole.2.id ∙ (provider-id run history number goal there.1 found.0 orderly recorded provider stands there.2.decided found.1).0;
       }
 
   abbrev turned_to : ProviderRef → ProviderRef
@@ -249,7 +251,7 @@ module _ (run : Fixed) (spelling : Spelling) (history : List Event) (real : is_p
         → (stays earlier ≡ true) ⊎ (is_taken_over now earlier ≡ true)
     left_or_taken earlier other low is names =
         let refers : refers_to (rows_of run) place earlier ≡ true = by_places in
-        by refers (gone_last run spelling place earlier refers history legal (left_so place left)) (is_taken_over now earlier) refl
+        by refers (gone_last run place earlier refers history orderly (left_so place left)) (is_taken_over now earlier) refl
       where
         by_places : refers_to (rows_of run) place earlier ≡ true
         by_places = let below : nat_lt earlier place ≡ true = grind (arith, nat_tests) in rw below (rw here (rw is names))
@@ -281,7 +283,7 @@ module _ (run : Fixed) (spelling : Spelling) (history : List Event) (real : is_p
         by earlier other low is same (inl there) =
             in_old (has_urn (turn urn)) place earlier (row_now now earlier other) low there (old_is earlier other is) (old_urn earlier other urn same)
         by earlier other low is same (inr taken) =
-            let goal = taken-turned run history (all-decided run spelling history legal) earlier other apart is taken in
+            let goal = taken-turned run history (all-decided run history orderly) earlier other apart is taken in
             let entry = has_entry goal.0 goal.1 goal.2 goal.3 in
             in_new (has_urn (turn urn)) place goal.0 entry.row goal.2 entry.entry
             ((bytes_eq-Decides entry.row.urn (turn urn)).1
@@ -307,7 +309,7 @@ module _ (run : Fixed) (spelling : Spelling) (history : List Event) (real : is_p
         by earlier other low is same id (inr taken) =
             let provides : is_provider_row other ≡ true = ap (λ (text : List ℕ). is_of_provider text) same ∙ proper.of_provider in
             let (number, goal, one, recorded, stands, decided, claims, of_provider, turns) =
-            provider-turned run spelling history real apart legal earlier other is taken provides in
+            provider-turned run history real apart orderly earlier other is taken provides in
             let entry = has_entry number goal recorded stands in
             let urn_has : has_urn (turn reference.urn) entry.row ≡ true =
             (bytes_eq-Decides entry.row.urn (turn reference.urn)).1 (entry.urn ∙ sym turns ∙ ap (λ (text : List ℕ). turn text) same) in
@@ -410,21 +412,21 @@ module _ (run : Fixed) (spelling : Spelling) (history : List Event) (real : is_p
       → RefersBack (new_entries now ++ filter_map (old_row now) (filter stays (row_numbers now)))
   all_back after provide =
       let new_sound : RefersBack (new_entries now) =
-      new_back run spelling history legal provide after [] (recorded_of now.history)
+      new_back run history orderly provide after [] (recorded_of now.history)
       (ap (λ (events : List Event). recorded_of events) (sym (history_of run history))) in
       subst (λ (fixed : Fixed). RefersBack (new_entries now ++ filter_map (old_row now) (filter stays (range_with_len 0 (length (rows_of fixed))))))
       (sym (run_of run history)) (old_back new_sound (length (rows_of run)) (omega arith))
 
 -- ---- states
 
-module _ (run : Fixed) (spelling : Spelling) (history : List Event)
+module _ (run : Fixed) (history : List Event)
     (names : HasNames run) (real : is_preview run.mode ≡ false)
-    (sound : IsSound (rows_of run)) (named : NameProviders (rows_of run)) (legal : IsLegal run spelling history) where
+    (sound : IsSound (rows_of run)) (named : NameProviders (rows_of run)) (orderly : IsOrderly run history) where
   pub states-sound : RecordedAfterReferences → is_refresh run.mode ≡ false → IsSound (state_of run history).entries
   states-sound after other =
       let apart : KeepsApart (rows_of run) = sound-apart (rows_of run) sound in
-      subst (λ (rows : List Entry). IsSound rows) (sym (entries_merged run spelling history names real apart legal other))
+      subst (λ (rows : List Entry). IsSound rows) (sym (entries_merged run history names real apart orderly other))
       (sound-from (new_entries (known_of run history) ++ old_entries (known_of run history))
-      (all_back run spelling history real sound named legal (is_left (known_of run history)) (λ place left. left)
-      (λ later earlier there refers left. left) after (providers-provide run spelling history names legal))
-      (merged_apart run spelling history names real apart legal))
+      (all_back run history real sound named orderly (is_left (known_of run history)) (λ place left. left)
+      (λ later earlier there refers left. left) after (providers-provide run history names orderly))
+      (merged_apart run history names real apart orderly))

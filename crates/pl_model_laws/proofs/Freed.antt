@@ -13,16 +13,20 @@ use Rattle.pl_events.specs.declared.event.What.TheVariants.{Answered, Begun, Kep
 use Rattle.pl_events.specs.declared.operation.Op.{Op}
 use Rattle.pl_decide.specs.declared.decision.Decision.{Decision}
 use Rattle.pl_decide.specs.declared.decision.Decision.TheVariants as decision
-use Rattle.pl_model.specs.Run.{Fixed, Spelling, is_preview, rows_of}
-use Rattle.pl_model.specs.Claims.{Decided, chain_of_claim, chain_of_goal, is_create_first, is_delete_first, is_row}
-use Rattle.pl_model.specs.Decisions.{is_refused, is_replacement}
-use Rattle.pl_model.specs.Due.{holds_urn, is_due, is_due_on, is_placed, is_ready_on, keeps_goal, none_or, op_of_decision, op_of_goal, passes_limit, provider_stands, references_recorded, sends_goal, to_keep, to_send, urn_is_free, way_is_free}
+use Rattle.pl_model.specs.declared.decided.Decided.{Decided}
+use Rattle.pl_model.specs.declared.errand.Errand.{Errand}
+use Rattle.pl_model.specs.declared.fixed.Fixed.{Fixed}
+use Rattle.pl_model.specs.declared.work.Work.TheVariants.{Keep as to_keep, Send as to_send}
+use Rattle.pl_model.specs.Run.{is_preview, rows_of}
+use Rattle.pl_decide.specs.Limited.{is_create_first, is_delete_first, is_refused, is_replacement}
+use Rattle.pl_model.specs.Claims.{chain_of_claim, chain_of_goal, is_row}
+use Rattle.pl_model.specs.Due.{holds_urn, is_due, is_due_on, is_placed, is_ready_on, keeps_goal, none_or, op_of_decision, op_of_goal, passes_limit, provider_stands, references_recorded, sends_goal, urn_is_free, way_is_free}
 use Rattle.pl_model.specs.History.{known_of}
 use Rattle.pl_model.specs.Known.{Known, decided_goal, goal_at, has_problem, is_recorded}
-use Rattle.pl_model.specs.Legal.{IsLegal, MayHappen}
+use Rattle.pl_model.specs.Legal.{IsOrderly, MayHappen}
 use Rattle.pl_model.specs.Recording.{goal_of_op, has_number, recorded_by, recorded_of}
 use Rattle.pl_model.specs.Rows.{is_left, is_marked, row_at, row_numbers, was_removed}
-use Rattle.pl_model.specs.Tickets.{Errand, begun_of, errand_by, same_op, was_begun}
+use Rattle.pl_model.specs.Tickets.{begun_of, errand_by, same_op, was_begun}
 use Rattle.pl_model_laws.specs.Apart.{KeepsApart}
 use Rattle.pl_model_laws.proofs.Claiming.{unprovided-stays, was-made}
 use Rattle.pl_model_laws.proofs.Growing.{decisions-stay, equal_numbers, goals-stay, run_of}
@@ -43,16 +47,16 @@ pub record IsFree (run : Fixed) (history : List Event) (number : ℕ) : Type 0 w
       → is_row one.claim row ≡ false → entry.urn ≢ goal.urn
   pub gone : (row : ℕ) → has_number (chain_of_goal run one) row ≡ true → is_left (known_of run history) row ≡ false
 
-free_stays : (run : Fixed) (spelling : Spelling) (event : Event) (past : List Event) (number : ℕ) → IsLegal run spelling (event ∷ past)
+free_stays : (run : Fixed) (event : Event) (past : List Event) (number : ℕ) → IsOrderly run (event ∷ past)
     → IsFree run past number → IsFree run (event ∷ past) number
-free_stays run spelling event past number legal h = record {
+free_stays run event past number orderly h = record {
   goal = h.goal;
   one = h.one;
   stands = goals-stay run event past number h.goal h.stands;
   decided = decisions-stay run event past number h.one h.decided;
-  none = λ row entry is left unmarked other. h.none row entry is (left-before run spelling event past legal row left) (unmarked-before run event past row unmarked) other;
+  none = λ row entry is left unmarked other. h.none row entry is (left-before run event past orderly row left) (unmarked-before run event past row unmarked) other;
   gone = λ row chained. not_earlier (is_left (known_of run past) row) (is_left (known_of run (event ∷ past)) row)
-      (left-before run spelling event past legal row) (h.gone row chained);
+      (left-before run event past orderly row) (h.gone row chained);
 }
 
 -- what all of the numbers pass, one that is there passes
@@ -99,13 +103,13 @@ some_there : {X : Type 0} (o : Option X) → is_some o ≡ true → (x : X) × (
 some_there (Some x) h = (x, refl)
 some_there None h = absurd (let e : false ≡ true = h in cc)
 
-module _ (run : Fixed) (spelling : Spelling) (real : is_preview run.mode ≡ false) (apart : KeepsApart (rows_of run)) where
-  module _ (history : List Event) (legal : IsLegal run spelling history) where
+module _ (run : Fixed) (real : is_preview run.mode ≡ false) (apart : KeepsApart (rows_of run)) where
+  module _ (history : List Event) (orderly : IsOrderly run history) where
     abbrev known : Known
     known = known_of run history
 
     all_decided : (m : ℕ) → is_recorded known m ≡ true → is_some (decided_goal known m) ≡ true
-    all_decided m h = let there = recorded-held run spelling history m legal h in ap (λ (o : Option Decided). is_some o) there.2.decided
+    all_decided m h = let there = recorded-held run history m orderly h in ap (λ (o : Option Decided). is_some o) there.2.decided
 
     -- where the wait for a free URN is over, it is free
     free_here : (number : ℕ) (goal : Goal) (one : Decided) → goal_at known number ≡ Some goal → decided_goal known number ≡ Some one
@@ -189,7 +193,7 @@ module _ (run : Fixed) (spelling : Spelling) (real : is_preview run.mode ≡ fal
             (and_right (none_or (was_removed known) one.claim) _ clear)
             (ap (λ (fixed : Fixed). has_number (chain_of_goal fixed one) row) (run_of run history) ∙ chained))
 
-  begun_due : (past : List Event) (seat : ℕ) (what : What) (errand : Errand) → MayHappen spelling (known_of run past) seat what
+  begun_due : (past : List Event) (seat : ℕ) (what : What) (errand : Errand) → MayHappen (known_of run past) seat what
       → errand_by seat what ≡ Some errand → is_due_on (known_of run past) errand.op errand.lane ≡ true
   begun_due past seat (Begun ticket lane about) errand may h =
       subst (λ (one : Errand). is_due_on (known_of run past) one.op one.lane ≡ true)
@@ -197,18 +201,18 @@ module _ (run : Fixed) (spelling : Spelling) (real : is_preview run.mode ≡ fal
   begun_due past seat _ errand may h = absurd (let e : None ≡ Some errand = h in cc)
 
   -- an operation on a goal was begun
-  pub free-begun : (history : List Event) (about : Op) (number : ℕ) → IsLegal run spelling history
+  pub free-begun : (history : List Event) (about : Op) (number : ℕ) → IsOrderly run history
       → was_begun history about ≡ true → goal_of_op about ≡ Some number → IsFree run history number
-  free-begun [] about number legal begun on = absurd (let e : false ≡ true = begun in cc)
-  free-begun (event ∷ past) about number legal begun on =
-      free_stays run spelling event past number legal (by (errand_by event.seat event.what) refl begun (λ old. free-begun past about number legal.0 old on))
+  free-begun [] about number orderly begun on = absurd (let e : false ≡ true = begun in cc)
+  free-begun (event ∷ past) about number orderly begun on =
+      free_stays run event past number orderly (by (errand_by event.seat event.what) refl begun (λ old. free-begun past about number orderly.0 old on))
     where
       new : (errand : Errand) → errand_by event.seat event.what ≡ Some errand → (b : Bool) → same_op errand.op about ≡ b
           → (b || was_begun past about) ≡ true → (was_begun past about ≡ true → IsFree run past number) → IsFree run past number
       new errand is true at h old =
-          free_sent past legal.0 about number errand.lane on
+          free_sent past orderly.0 about number errand.lane on
           (subst (λ (one : Op). is_due_on (known_of run past) one errand.lane ≡ true) (equal_ops errand.op about at)
-          (begun_due past event.seat event.what errand legal.1 is))
+          (begun_due past event.seat event.what errand orderly.1 is))
       new errand is false at h old = old h
 
       by : (o : Option Errand) → errand_by event.seat event.what ≡ o
@@ -218,28 +222,28 @@ module _ (run : Fixed) (spelling : Spelling) (real : is_preview run.mode ≡ fal
       by (Some errand) is h old = new errand is (same_op errand.op about) refl h old
 
   -- what an event records has its URN free before
-  recording_free : (past : List Event) (seat : ℕ) (what : What) (number : ℕ) → IsLegal run spelling past
-      → MayHappen spelling (known_of run past) seat what → recorded_by past what ≡ Some number → IsFree run past number
-  recording_free past seat (Kept kept fresh) number legal may h =
-      subst (λ (n : ℕ). IsFree run past n) (some_same kept number h) (free_kept past legal kept may.due)
-  recording_free past seat (Answered ticket reply) number legal may h =
+  recording_free : (past : List Event) (seat : ℕ) (what : What) (number : ℕ) → IsOrderly run past
+      → MayHappen (known_of run past) seat what → recorded_by past what ≡ Some number → IsFree run past number
+  recording_free past seat (Kept kept fresh) number orderly may h =
+      subst (λ (n : ℕ). IsFree run past n) (some_same kept number h) (free_kept past orderly kept may.due)
+  recording_free past seat (Answered ticket reply) number orderly may h =
       let answered = answered_errand past ticket reply number h in
-      free-begun past answered.0.op number legal
+      free-begun past answered.0.op number orderly
       (sent_begun past ticket answered.0.op (errand_sent past ticket answered.0 answered.1)) answered.2
-  recording_free past seat _ number legal may h = absurd (let e : None ≡ Some number = h in cc)
+  recording_free past seat _ number orderly may h = absurd (let e : None ≡ Some number = h in cc)
 
   -- a goal was recorded
-  pub free-recorded : (history : List Event) (number : ℕ) → IsLegal run spelling history
+  pub free-recorded : (history : List Event) (number : ℕ) → IsOrderly run history
       → has_number (recorded_of history) number ≡ true → IsFree run history number
-  free-recorded [] number legal h = absurd (let e : false ≡ true = h in cc)
-  free-recorded (event ∷ past) number legal h =
-      free_stays run spelling event past number legal (by (recorded_by past event.what) refl h (λ old. free-recorded past number legal.0 old))
+  free-recorded [] number orderly h = absurd (let e : false ≡ true = h in cc)
+  free-recorded (event ∷ past) number orderly h =
+      free_stays run event past number orderly (by (recorded_by past event.what) refl h (λ old. free-recorded past number orderly.0 old))
     where
       new : (other : ℕ) → recorded_by past event.what ≡ Some other → (b : Bool) → (other == number) ≡ b
           → (b || has_number (recorded_of past) number) ≡ true → (has_number (recorded_of past) number ≡ true → IsFree run past number)
           → IsFree run past number
       new other is true at h old =
-          subst (λ (n : ℕ). IsFree run past n) (equal_numbers other number at) (recording_free past event.seat event.what other legal.0 legal.1 is)
+          subst (λ (n : ℕ). IsFree run past n) (equal_numbers other number at) (recording_free past event.seat event.what other orderly.0 orderly.1 is)
       new other is false at h old = old h
 
       by : (o : Option ℕ) → recorded_by past event.what ≡ o → has_number (cons_option o (recorded_of past)) number ≡ true

@@ -10,15 +10,17 @@ use Rattle.pl_state.specs.References.{has_urn}
 use Rattle.pl_state.specs.declared.entry.Entry.{Entry}
 use Rattle.pl_state.specs.declared.goal.Goal.{Goal}
 use Rattle.pl_events.specs.declared.event.Event.{Event}
-use Rattle.pl_model.specs.Run.{Fixed, Spelling, rows_of}
+use Rattle.pl_model.specs.declared.decided.Decided.{Decided}
+use Rattle.pl_model.specs.declared.fixed.Fixed.{Fixed}
+use Rattle.pl_model.specs.Run.{rows_of}
 use Rattle.pl_model.specs.Tickets.{answers_of}
-use Rattle.pl_model.specs.Claims.{Decided, chain_of_goal, claim_by, claim_for, first_some, is_chained, is_claimed, is_row, may_claim, numbered}
+use Rattle.pl_model.specs.Claims.{chain_of_goal, claim_by, claim_for, first_some, is_chained, is_claimed, is_row, may_claim, numbered}
 use Rattle.pl_model.specs.Decisions.{turn_of}
 use Rattle.pl_model.specs.Due.{holds_urn, urn_is_free}
 use Rattle.pl_model.specs.Entries.{old_row, row_now}
 use Rattle.pl_model.specs.History.{known_of}
 use Rattle.pl_model.specs.Known.{Known, decided_goal, goal_at, is_recorded}
-use Rattle.pl_model.specs.Legal.{IsLegal}
+use Rattle.pl_model.specs.Legal.{IsOrderly}
 use Rattle.pl_model.specs.Recording.{has_number}
 use Rattle.pl_model.specs.Rows.{is_left, is_marked, is_replaced, row_at, row_numbers}
 use Rattle.pl_model_laws.specs.Apart.{KeepsApart}
@@ -142,8 +144,8 @@ unclaimed_taken run before goal row entry h at stays same =
 
 -- ---- the goal's URN
 
-module _ (run : Fixed) (spelling : Spelling) (history : List Event) (n : ℕ) (goal : Goal) (one : Decided)
-    (legal : IsLegal run spelling history) (apart : KeepsApart (rows_of run))
+module _ (run : Fixed) (history : List Event) (n : ℕ) (goal : Goal) (one : Decided)
+    (orderly : IsOrderly run history) (apart : KeepsApart (rows_of run))
     (stands : goal_at (known_of run history) n ≡ Some goal) (decided : decided_goal (known_of run history) n ≡ Some one)
     (recorded : (m : ℕ) → m < n → is_recorded (known_of run history) m ≡ true)
     (gone : (m : ℕ) (before : Decided) (row : ℕ) → m < n → decided_goal (known_of run history) m ≡ Some before
@@ -221,7 +223,7 @@ module _ (run : Fixed) (spelling : Spelling) (history : List Event) (n : ℕ) (g
       let parts = holds_parts (is_left known row) (is_marked known row) (is_row one.claim row) _ h in
       let now = passes_some (λ (entry : Entry). bytes_eq entry.urn goal.urn) (old_row known row) parts.3 in
       let base = made_from (row_now known row) (row_at known row) now.0 now.1 in
-      let was = unmarked-urn run history row base.0 apart (all-decided run spelling history legal) base.1 parts.0 parts.1 in
+      let was = unmarked-urn run history row base.0 apart (all-decided run history orderly) base.1 parts.0 parts.1 in
       let same : was.0 ≡ now.0 = some_same was.0 now.0 (sym was.1 ∙ now.1) in
       let urns : base.0.urn ≡ goal.urn =
       sym was.2 ∙ ap (λ (it : Entry). it.urn) same ∙ (bytes_eq-Decides now.0.urn goal.urn).0 now.2 in
@@ -238,12 +240,12 @@ module _ (run : Fixed) (spelling : Spelling) (history : List Event) (n : ℕ) (g
           absurd (none_holds found.0 found.1)
 
 -- where the goals before a goal are recorded and the rows of their chains are gone, its URN is free
-pub urn-ready : (run : Fixed) (spelling : Spelling) (history : List Event) (n : ℕ) (goal : Goal) (one : Decided)
-    → IsLegal run spelling history → KeepsApart (rows_of run)
+pub urn-ready : (run : Fixed) (history : List Event) (n : ℕ) (goal : Goal) (one : Decided)
+    → IsOrderly run history → KeepsApart (rows_of run)
     → goal_at (known_of run history) n ≡ Some goal → decided_goal (known_of run history) n ≡ Some one
     → ((m : ℕ) → m < n → is_recorded (known_of run history) m ≡ true)
     → ((m : ℕ) (before : Decided) (row : ℕ) → m < n → decided_goal (known_of run history) m ≡ Some before
     → has_number (chain_of_goal run before) row ≡ true → is_left (known_of run history) row ≡ false)
     → urn_is_free (known_of run history) goal one ≡ true
-urn-ready run spelling history n goal one legal apart stands decided recorded gone =
-    urn_free run spelling history n goal one legal apart stands decided recorded gone
+urn-ready run history n goal one orderly apart stands decided recorded gone =
+    urn_free run history n goal one orderly apart stands decided recorded gone

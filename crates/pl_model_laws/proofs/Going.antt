@@ -11,15 +11,19 @@ use Rattle.pl_state.specs.declared.fault.Missing.TheVariants.{DeletedWith, Depen
 use Rattle.pl_state.specs.declared.goal.Goal.{Goal}
 use Rattle.pl_events.specs.declared.event.Event.{Event}
 use Rattle.pl_decide.specs.Permits.{is_wanted}
-use Rattle.pl_model.specs.Run.{Fixed, Spelling, is_destroy, is_preview, is_refresh, rows_of}
-use Rattle.pl_model.specs.Claims.{Decided, chain_of_claim, chain_of_goal, claimer_of, is_claimed, is_create_first, is_delete_first, is_row}
+use Rattle.pl_model.specs.declared.decided.Decided.{Decided}
+use Rattle.pl_model.specs.declared.fixed.Fixed.{Fixed}
+use Rattle.pl_model.specs.Run.{is_destroy, is_preview, is_refresh, rows_of}
+use Rattle.pl_decide.specs.Limited.{is_create_first, is_delete_first}
+use Rattle.pl_model.specs.Claims.{chain_of_claim, chain_of_goal, claimer_of, is_claimed, is_row}
 use Rattle.pl_model.specs.History.{known_of}
 use Rattle.pl_model.specs.Known.{Known, all_recorded, decided_goal, host_ended, is_over, is_recorded}
-use Rattle.pl_model.specs.Legal.{IsLegal}
+use Rattle.pl_model.specs.Legal.{IsOrderly}
 use Rattle.pl_model.specs.Problems.{lacks_provider}
 use Rattle.pl_model.specs.Recording.{has_number, recorded_of, removed_of}
-use Rattle.pl_model.specs.Rows.{goes_with, is_deletable, is_deleted_first, is_doomed, is_left, is_marked, is_replaced, is_taken_out, is_taken_over, is_target, row_at, stands_beside, takes_along, was_removed}
+use Rattle.pl_model.specs.Rows.{goes_now, goes_with, is_deletable, is_deleted_first, is_doomed, is_left, is_marked, is_replaced, is_taken_out, is_taken_over, is_target, row_at, stands_beside, takes_along, was_removed}
 use Rattle.pl_model_laws.specs.Apart.{KeepsApart}
+use Rattle.pl_model_laws.proofs.Along.{along-so, along-there, along-told}
 use Rattle.pl_model_laws.proofs.Chains.{chain-closed}
 use Rattle.pl_model_laws.proofs.Claiming.{claim_is, numbered_passes, passing_number, where_found}
 use Rattle.pl_model_laws.proofs.Dependents.{gone_last}
@@ -143,8 +147,8 @@ all_pass test other a zero weaker h = refl
 all_pass test other a (suc n) weaker h =
     rw (weaker a (and_left (test a) _ h)) (all_pass test other (a + 1) n weaker (and_right (test a) _ h))
 
-module _ (run : Fixed) (spelling : Spelling) (history : List Event) (legal : IsLegal run spelling history)
-    (past : List Event) (later : Later run past (known_of run history)) (legal_then : IsLegal run spelling past) where
+module _ (run : Fixed) (history : List Event) (orderly : IsOrderly run history)
+    (past : List Event) (later : Later run past (known_of run history)) (orderly_then : IsOrderly run past) where
   abbrev known : Known
   known = known_of run history
 
@@ -199,7 +203,7 @@ module _ (run : Fixed) (spelling : Spelling) (history : List Event) (legal : IsL
         by true is =
             let found = passing_number (λ (one : Decided). is_row one.claim row) known.decided is in
             let at : decided_goal told_then found.0 ≡ Some found.1 =
-            claimed-then run spelling history found.0 row found.1 found.2 found.3 past later legal_then doomed in
+            claimed-then run history found.0 row found.1 found.2 found.3 past later orderly_then doomed in
             let some : is_claimed told_then.decided row ≡ true =
             numbered_passes (λ (one : Decided). is_row one.claim row) told_then.decided found.0 found.1 at found.3 in
             absurd (let e : true ≡ false = sym some ∙ none in cc)
@@ -215,15 +219,21 @@ module _ (run : Fixed) (spelling : Spelling) (history : List Event) (legal : IsL
         goes true is h = rw (marked_later row h) (or_true (not (is_claimed known.decided row)))
         goes false is h = rw (unclaimed_later is) refl
 
+        goes_later : goes_now told_then row ≡ true → goes_now known row ≡ true
+        goes_later h =
+            let there = along-there told_then row h in
+            along-so known row there.0 (ap (λ (fixed : Fixed). slice_get (rows_of fixed) row) (sym same_run) ∙ there.1)
+            (goes (is_claimed told_then.decided row) refl (along-told told_then row h))
+
         by : (b : Bool)
-            → (b || (has_number (chain_of_goal told_then.run one) row && (not (is_claimed told_then.decided row) || is_marked told_then row))) ≡ true
-            → (b || (has_number (chain_of_goal known.run one) row && (not (is_claimed known.decided row) || is_marked known row))) ≡ true
+            → (b || (has_number (chain_of_goal told_then.run one) row && goes_now told_then row)) ≡ true
+            → (b || (has_number (chain_of_goal known.run one) row && goes_now known row)) ≡ true
         by true h = refl
         by false h =
             let chained : has_number (chain_of_goal known.run one) row ≡ true =
             ap (λ (fixed : Fixed). has_number (chain_of_goal fixed one) row) (sym same_run)
             ∙ and_left (has_number (chain_of_goal told_then.run one) row) _ h in
-            rw chained (goes (is_claimed told_then.decided row) refl (and_right (has_number (chain_of_goal told_then.run one) row) _ h))
+            rw chained (goes_later (and_right (has_number (chain_of_goal told_then.run one) row) _ h))
 
     -- a row that is to go is so later, as long as it is left
     pub doomed-later : is_left known row ≡ true → is_doomed known row ≡ true
@@ -250,7 +260,7 @@ module _ (run : Fixed) (spelling : Spelling) (history : List Event) (legal : IsL
   module _ (real : is_preview run.mode ≡ false) (apart : KeepsApart (rows_of run)) (row earlier : ℕ)
       (refers : refers_to (rows_of run) row earlier ≡ true) (left : is_left known row ≡ true) where
     -- it was not taken over, if it was to go
-    not_taken : is_doomed told_then earlier ≡ true → Taker run history (all-decided run spelling history legal) earlier → ⊥
+    not_taken : is_doomed told_then earlier ≡ true → Taker run history (all-decided run history orderly) earlier → ⊥
     not_taken doomed own =
         by (is_over told_then) refl parts.cause
       where
@@ -258,10 +268,10 @@ module _ (run : Fixed) (spelling : Spelling) (history : List Event) (legal : IsL
         parts = doomed-parts told_then earlier doomed
 
         at : decided_goal told_then own.number ≡ Some own.one
-        at = claimed-then run spelling history own.number earlier own.one own.decided own.claims past later legal_then doomed
+        at = claimed-then run history own.number earlier own.one own.decided own.claims past later orderly_then doomed
 
         unmarked : is_marked told_then earlier ≡ false
-        unmarked = never-marked run spelling history own.number earlier own.one own.decided own.claims own.creates_none past later
+        unmarked = never-marked run history own.number earlier own.one own.decided own.claims own.creates_none past later
 
         claimed : is_claimed told_then.decided earlier ≡ true
         claimed = numbered_passes (λ (it : Decided). is_row it.claim earlier) told_then.decided own.number own.one at own.claims
@@ -270,7 +280,7 @@ module _ (run : Fixed) (spelling : Spelling) (history : List Event) (legal : IsL
         way : is_delete_first own.one.decision ≡ true → ⊥
         way first =
             let listed : has_number (recorded_of history) own.number ≡ true = sym (recorded-as run history own.number) ∙ own.recorded in
-            let free = free-recorded run spelling real apart history own.number legal listed in
+            let free = free-recorded run real apart history own.number orderly listed in
             let same : free.one ≡ own.one = some_same free.one own.one (sym free.decided ∙ own.decided) in
             let claim : own.one.claim ≡ Some earlier = claim_is own.one.claim earlier own.claims in
             let low : row < length (rows_of run) = below in
@@ -290,8 +300,7 @@ module _ (run : Fixed) (spelling : Spelling) (history : List Event) (legal : IsL
 
         taken : (n : ℕ) (it : Decided) → decided_goal told_then n ≡ Some it → (b : Bool) → is_row it.claim earlier ≡ b
             → is_delete_first it.decision ≡ true
-            → (b || (has_number (chain_of_goal told_then.run it) earlier
-            && (not (is_claimed told_then.decided earlier) || is_marked told_then earlier))) ≡ true → ⊥
+            → (b || (has_number (chain_of_goal told_then.run it) earlier && goes_now told_then earlier)) ≡ true → ⊥
         taken n it there true is first h =
             let number : n ≡ own.number =
             claimed-once run past n own.number it own.one earlier there at is own.claims in
@@ -301,13 +310,13 @@ module _ (run : Fixed) (spelling : Spelling) (history : List Event) (legal : IsL
         taken n it there false is first h =
             let free : not (is_claimed told_then.decided earlier) ≡ true =
             first_of_two (not (is_claimed told_then.decided earlier)) (is_marked told_then earlier)
-            (and_right (has_number (chain_of_goal told_then.run it) earlier) _ h) unmarked in
+            (along-told told_then earlier (and_right (has_number (chain_of_goal told_then.run it) earlier) _ h)) unmarked in
             let e : true ≡ false = sym claimed ∙ not_true (is_claimed told_then.decided earlier) free in cc
 
         by : (b : Bool) → is_over told_then ≡ b → (b || list_any (takes_along told_then earlier) told_then.decided) ≡ true → ⊥
         by true is h =
-            recorded-gone run spelling history own.number earlier own.one own.decided own.claims own.creates_none past later legal_then
-            (over_recorded run spelling history own.number earlier own.one own.decided own.claims past later is) parts.left
+            recorded-gone run history own.number earlier own.one own.decided own.claims own.creates_none past later orderly_then
+            (over_recorded run history own.number earlier own.one own.decided own.claims past later is) parts.left
         by false is h =
             let found = passing_number (takes_along told_then earlier) told_then.decided h in
             taken found.0 found.1 found.2 (is_row found.1.claim earlier) refl
@@ -320,7 +329,7 @@ module _ (run : Fixed) (spelling : Spelling) (history : List Event) (legal : IsL
         (doomed-parts told_then earlier doomed).left in
         let kept : was_removed known earlier ≡ false =
         ap (λ (events : List Event). has_number (removed_of events) earlier) (history_of run history)
-        ∙ gone_last run spelling row earlier refers history legal left in
+        ∙ gone_last run row earlier refers history orderly left in
         left_made (nat_lt earlier (length (rows_of known.run))) (is_taken_out known earlier) (is_taken_over known earlier)
         (ap (λ (fixed : Fixed). nat_lt earlier (length (rows_of fixed))) (sym same_run) ∙ parts.0)
         (ap (λ (b : Bool). b && not (is_deleted_first known earlier)) kept)
@@ -328,7 +337,7 @@ module _ (run : Fixed) (spelling : Spelling) (history : List Event) (legal : IsL
       where
         by : (b : Bool) → is_taken_over known earlier ≡ b → b ≡ false
         by false is = refl
-        by true is = absurd (not_taken doomed (taker run history (all-decided run spelling history legal) earlier is))
+        by true is = absurd (not_taken doomed (taker run history (all-decided run history orderly) earlier is))
 
   -- ---- what goes along
 

@@ -17,13 +17,18 @@ use Rattle.pl_events.specs.declared.operation.Op.{Op}
 use Rattle.pl_events.specs.declared.operation.Op.TheVariants as op
 use Rattle.pl_events.specs.declared.operation.Subject.TheVariants as subject
 use Rattle.pl_events.specs.declared.reply.Reply.{Reply}
-use Rattle.pl_model.specs.Run.{Fixed, Pairs}
-use Rattle.pl_model.specs.Tickets.{Closed, answers_of, closed_by, reply_to}
+use Rattle.pl_model.specs.declared.decided.Decided.{Decided}
+use Rattle.pl_model.specs.declared.errand.Closed.{Closed}
+use Rattle.pl_model.specs.declared.fixed.Fixed.{Fixed}
+use Rattle.pl_model.specs.declared.heard.Fate.{Fate}
+use Rattle.pl_model.specs.declared.heard.Fate.TheVariants.{Accepted as accepted, Halted as halted, Refused as refused}
+use Rattle.pl_model.specs.Run.{Pairs}
+use Rattle.pl_model.specs.Tickets.{answers_of, closed_by, reply_to}
 use Rattle.pl_model.specs.Recording.{has_number, recorded_by, recorded_of}
-use Rattle.pl_model.specs.Claims.{Decided, numbered}
+use Rattle.pl_model.specs.Claims.{numbered}
 use Rattle.pl_model.specs.Decisions.{Turn, checked_at, checked_in, decided_after, decided_at, decided_by, decided_next, decided_of, diff_at, diffed_in, is_provider_unknown, needs_check, turn_of, wants_diff, inputs_at, unknown_diff}
 use Rattle.pl_model.specs.History.{goals_after, known_of}
-use Rattle.pl_model.specs.Known.{Fate, halted, refused, accepted, Known, decided_goal, goal_at}
+use Rattle.pl_model.specs.Known.{Known, decided_goal, goal_at}
 use Rattle.pl_model.specs.Requests.{default_goal, default_urn, fate_of, goals_by, goals_made, has_goal, invoked_version, uses_default, with_default, with_goal, with_invoked, with_provider, with_result}
 
 pub same_number : (n : ℕ) → (n == n) ≡ true

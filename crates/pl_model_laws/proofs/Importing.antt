@@ -14,16 +14,20 @@ use Rattle.pl_events.specs.declared.operation.Op.TheVariants as op
 use Rattle.pl_events.specs.declared.operation.Subject.TheVariants as subject
 use Rattle.pl_events.specs.declared.reply.Reply.{Reply}
 use Rattle.pl_events.specs.declared.reply.Reply.TheVariants as reply
-use Rattle.pl_model.specs.Run.{Fixed, Spelling, imports_of, is_refresh}
+use Rattle.pl_model.specs.declared.errand.Closed.{Closed}
+use Rattle.pl_model.specs.declared.errand.Errand.{Errand}
+use Rattle.pl_model.specs.declared.fixed.Fixed.{Fixed}
+use Rattle.pl_model.specs.declared.work.Work.TheVariants.{Send as to_send}
+use Rattle.pl_model.specs.Run.{imports_of, is_refresh}
 use Rattle.pl_model.specs.Claims.{is_row}
-use Rattle.pl_model.specs.Due.{is_due_on, is_imported, is_ready_on, passes_limit, to_send}
+use Rattle.pl_model.specs.Due.{is_due_on, is_imported, is_ready_on, passes_limit}
 use Rattle.pl_model.specs.History.{known_of}
 use Rattle.pl_model.specs.Known.{Known}
-use Rattle.pl_model.specs.Legal.{IsLegal, MayHappen}
+use Rattle.pl_model.specs.Legal.{IsOrderly, MayHappen}
 use Rattle.pl_model.specs.Problems.{creates_urn, is_creating, pending_create}
 use Rattle.pl_model.specs.Rows.{pending_at}
 use Rattle.pl_model.specs.State.{found_by, imported_by, imported_entries, pending_read}
-use Rattle.pl_model.specs.Tickets.{Closed, Errand, answers_of, begun_of, closes, errand_at, errand_of, is_closed, same_op}
+use Rattle.pl_model.specs.Tickets.{answers_of, begun_of, closes, errand_at, errand_of, is_closed, same_op}
 use Rattle.pl_model_laws.specs.Apart.{AreApart}
 use Rattle.pl_model_laws.proofs.Among.{IsAmong, any_found, find_among}
 use Rattle.pl_model_laws.proofs.Claiming.{claim_is, found_at}
@@ -82,7 +86,7 @@ among_more (Some y) xs x there = inr there
 -- ---- pending operations
 
 -- what reads a pending operation
-read_of : (about : Op) (at : ℕ) → pending_read about ≡ Some at → about ≡ op.Read (subject.Pending at)
+pub read_of : (about : Op) (at : ℕ) → pending_read about ≡ Some at → about ≡ op.Read (subject.Pending at)
 read_of (op.Read (subject.Pending n)) at h = ap (λ (k : ℕ). op.Read (subject.Pending k)) (some_same n at h)
 read_of _ at h = absurd (let e : None ≡ Some at = h in cc)
 
@@ -97,7 +101,7 @@ some_then f (Some x) y h = (x, refl, h)
 some_then f None y h = absurd (let e : None ≡ Some y = h in cc)
 
 -- a pending operation that the command names by the first creation of a URN
-abbrev IsNamedImport : Fixed → ℕ → Type 0
+abbrev pub IsNamedImport : Fixed → ℕ → Type 0
 IsNamedImport run at = list_any (λ (pair : List ℕ × List ℕ). is_row (pending_create run pair.1) at) (imports_of run.mode) ≡ true
 
 -- it is the first creation of its own URN
@@ -122,7 +126,7 @@ first_creation run at pending named stands =
 -- ---- what was begun and answered
 
 -- an operation that was begun, under a ticket that is closed
-record IsShut (history : List Event) (about : Op) : Type 0 where
+pub record IsShut (history : List Event) (about : Op) : Type 0 where
   pub errand : Errand
   pub begun : IsAmong errand (begun_of history)
   pub does : errand.op ≡ about
@@ -170,12 +174,12 @@ shut_step seat past (Answered ticket said) before = by (errand_at past ticket) r
 shut_step seat past what before = still_shut seat past what before
 
 -- what was answered was begun, under a ticket that is closed
-each_shut : (history : List Event) → Each (λ (closed : Closed). IsShut history closed.op) (answers_of history)
+pub each_shut : (history : List Event) → Each (λ (closed : Closed). IsShut history closed.op) (answers_of history)
 each_shut [] = tt
 each_shut (event ∷ past) = shut_step event.seat past event.what (each_shut past)
 
 -- two answers do not read one pending operation
-abbrev ReadApart : Closed → Closed → Type 0
+abbrev pub ReadApart : Closed → Closed → Type 0
 ReadApart one other = (first second : ℕ) → pending_read one.op ≡ Some first → pending_read other.op ≡ Some second → first ≢ second
 
 -- an entry keeps the URN of the pending operation that it was found by
@@ -205,7 +209,7 @@ imports_of_answer known closed row h =
       urn = found_urn pending.0.entry row (Some closed.reply) pending.2;
     }
 
-module _ (run : Fixed) (spelling : Spelling) where
+module _ (run : Fixed) where
   -- a reading that is due is of a pending operation that an import closes
   named_ready : (known : Known) (at lane : ℕ) → is_due_on known (op.Read (subject.Pending at)) lane ≡ true → is_imported known at ≡ true
   named_ready known at lane h =
@@ -213,7 +217,7 @@ module _ (run : Fixed) (spelling : Spelling) where
       (asked_on known at (op.Read (subject.Pending at)) lane
       (and_left (is_ready_on known (op.Read (subject.Pending at)) lane) (not (passes_limit known (to_send (op.Read (subject.Pending at))))) h))
 
-  named_step : (seat : ℕ) (past : List Event) (what : What) (errand : Errand) (at : ℕ) → MayHappen spelling (known_of run past) seat what
+  named_step : (seat : ℕ) (past : List Event) (what : What) (errand : Errand) (at : ℕ) → MayHappen (known_of run past) seat what
       → errand.op ≡ op.Read (subject.Pending at) → (IsAmong errand (begun_of past) → IsNamedImport run at)
       → IsAmong errand (begun_of (record { seat = seat; what = what } ∷ past)) → IsNamedImport run at
   named_step seat past (Begun ticket lane about) errand at may does rest (inl same) =
@@ -225,17 +229,17 @@ module _ (run : Fixed) (spelling : Spelling) where
   named_step seat past _ errand at may does rest there = rest there
 
   -- a pending operation that is read is one that an import closes
-  begun_named : (history : List Event) (errand : Errand) (at : ℕ) → IsLegal run spelling history → errand.op ≡ op.Read (subject.Pending at)
+  pub begun_named : (history : List Event) (errand : Errand) (at : ℕ) → IsOrderly run history → errand.op ≡ op.Read (subject.Pending at)
       → IsAmong errand (begun_of history) → IsNamedImport run at
-  begun_named [] errand at legal does there = absurd there
-  begun_named (event ∷ past) errand at legal does there =
-      named_step event.seat past event.what errand at legal.1 does (begun_named past errand at legal.0 does) there
+  begun_named [] errand at orderly does there = absurd there
+  begun_named (event ∷ past) errand at orderly does there =
+      named_step event.seat past event.what errand at orderly.1 does (begun_named past errand at orderly.0 does) there
 
   -- a reading that is begun once is not answered again
-  unread : (seat : ℕ) (past : List Event) (ticket : ℕ) (said : Reply) (errand : Errand) → IsLegal run spelling past
-      → MayHappen spelling (known_of run past) seat (Answered ticket said) → errand_at past ticket ≡ Some errand
+  pub unread : (seat : ℕ) (past : List Event) (ticket : ℕ) (said : Reply) (errand : Errand) → IsOrderly run past
+      → MayHappen (known_of run past) seat (Answered ticket said) → errand_at past ticket ≡ Some errand
       → (closed : Closed) → IsShut past closed.op → ReadApart (record { op = errand.op; reply = said }) closed
-  unread seat past ticket said errand legal may is closed shut first second reads also same =
+  unread seat past ticket said errand orderly may is closed shut first second reads also same =
       let about : Op = op.Read (subject.Pending first) in
       let there = find_among (λ (one : Errand). one.ticket == ticket) (begun_of past) errand is in
       let mine : errand.op ≡ about = read_of errand.op first reads in
@@ -245,32 +249,32 @@ module _ (run : Fixed) (spelling : Spelling) where
       λ one does. ap (λ (it : Op). same_op it about) does ∙ same_op_self about in
       let one : errand ≡ shut.errand =
       one_passes (λ (it : Errand). same_op it.op about) (begun_of past) errand shut.errand
-      (begun_at_most_once run spelling about refl past legal) there.0 shut.begun (passes errand mine) (passes shut.errand its) in
+      (begun_at_most_once run about refl past orderly) there.0 shut.begun (passes errand mine) (passes shut.errand its) in
       let number : shut.errand.ticket ≡ ticket =
       ap (λ (it : Errand). it.ticket) (sym one) ∙ equal_numbers errand.ticket ticket there.1 in
-      absurd (let e : true ≡ false = sym shut.shut ∙ ap (λ (n : ℕ). is_closed past n) number ∙ unclosed run spelling seat ticket past may.closes in cc)
+      absurd (let e : true ≡ false = sym shut.shut ∙ ap (λ (n : ℕ). is_closed past n) number ∙ unclosed run seat ticket past may.closes in cc)
 
   -- one event more
-  apart_step : (seat : ℕ) (past : List Event) (what : What) → IsLegal run spelling past → MayHappen spelling (known_of run past) seat what
+  apart_step : (seat : ℕ) (past : List Event) (what : What) → IsOrderly run past → MayHappen (known_of run past) seat what
       → Pairwise ReadApart (answers_of past) → Pairwise ReadApart (answers_of (record { seat = seat; what = what } ∷ past))
-  apart_step seat past (Answered ticket said) legal may before = by (errand_at past ticket) refl
+  apart_step seat past (Answered ticket said) orderly may before = by (errand_at past ticket) refl
     where
       by : (o : Option Errand) → errand_at past ticket ≡ o
           → Pairwise ReadApart (cons_option (option_map (closed_with said) (option_map (λ (errand : Errand). errand.op) o)) (answers_of past))
       by None is = before
       by (Some errand) is = (
         each-weaker (λ (closed : Closed). IsShut past closed.op) (ReadApart (record { op = errand.op; reply = said }))
-            (λ closed shut. unread seat past ticket said errand legal may is closed shut) (answers_of past) (each_shut past),
+            (λ closed shut. unread seat past ticket said errand orderly may is closed shut) (answers_of past) (each_shut past),
         before,
       )
-  apart_step seat past _ legal may before = before
+  apart_step seat past _ orderly may before = before
 
   -- no two answers read one pending operation
-  answers_apart : (history : List Event) → IsLegal run spelling history → Pairwise ReadApart (answers_of history)
-  answers_apart [] legal = tt
-  answers_apart (event ∷ past) legal = apart_step event.seat past event.what legal.0 legal.1 (answers_apart past legal.0)
+  answers_apart : (history : List Event) → IsOrderly run history → Pairwise ReadApart (answers_of history)
+  answers_apart [] orderly = tt
+  answers_apart (event ∷ past) orderly = apart_step event.seat past event.what orderly.0 orderly.1 (answers_apart past orderly.0)
 
-  module _ (history : List Event) (legal : IsLegal run spelling history) where
+  module _ (history : List Event) (orderly : IsOrderly run history) where
     abbrev known : Known
     known = known_of run history
 
@@ -280,7 +284,7 @@ module _ (run : Fixed) (spelling : Spelling) where
     -- each answered reading is of such a pending operation
     answers_named : Each ReadsNamed (answers_of history)
     answers_named = each-weaker (λ (closed : Closed). IsShut history closed.op) ReadsNamed
-        (λ closed shut at reads. begun_named history shut.errand at legal (shut.does ∙ read_of closed.op at reads) shut.begun)
+        (λ closed shut at reads. begun_named history shut.errand at orderly (shut.does ∙ read_of closed.op at reads) shut.begun)
         (answers_of history) (each_shut history)
 
     -- what an answer imports is of the first creation of its URN
@@ -315,4 +319,4 @@ module _ (run : Fixed) (spelling : Spelling) where
         ReadsNamed (λ one other named also apart. import_apart one other named also apart) (reverse (answers_of history))
         (each-reverse ReadsNamed (answers_of history) answers_named)
         (pairs-reverse ReadApart (λ one other apart second first also reads same. apart first second reads also (sym same))
-        (answers_of history) (answers_apart history legal))))
+        (answers_of history) (answers_apart history orderly))))

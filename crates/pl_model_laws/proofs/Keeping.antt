@@ -4,12 +4,14 @@ use Rattle.std.proofs.lemmas.Option.{get_or_from_slice_get, slice_get_within}
 use Rattle.pl_state.specs.declared.entry.Entry.{Entry}
 use Rattle.pl_state.specs.declared.goal.Goal.{Goal}
 use Rattle.pl_events.specs.declared.event.Event.{Event}
-use Rattle.pl_model.specs.Run.{Fixed, HasNames, Spelling, is_preview, is_refresh, rows_of}
-use Rattle.pl_model.specs.Claims.{Decided, is_row}
+use Rattle.pl_model.specs.declared.decided.Decided.{Decided}
+use Rattle.pl_model.specs.declared.fixed.Fixed.{Fixed}
+use Rattle.pl_model.specs.Run.{HasNames, is_preview, is_refresh, rows_of}
+use Rattle.pl_model.specs.Claims.{is_row}
 use Rattle.pl_model.specs.Entries.{new_entries, old_entries, old_row, recorded_entry, row_now}
 use Rattle.pl_model.specs.History.{known_of}
 use Rattle.pl_model.specs.Known.{Known, decided_goal, goal_at, is_recorded}
-use Rattle.pl_model.specs.Legal.{IsLegal}
+use Rattle.pl_model.specs.Legal.{IsOrderly}
 use Rattle.pl_model.specs.Recording.{has_number, recorded_of}
 use Rattle.pl_model.specs.Rows.{is_left, is_marked, left_rows, row_at, row_numbers}
 use Rattle.pl_model.specs.State.{refreshed_entries, state_of}
@@ -34,14 +36,14 @@ each_there all [] within = tt
 each_there all (n ∷ numbers) within =
     (within n (rw (same_number n) refl), each_there all numbers (λ m there. within m (rw there (or_true (n == m)))))
 
-module _ (run : Fixed) (spelling : Spelling) (history : List Event)
+module _ (run : Fixed) (history : List Event)
     (names : HasNames run) (real : is_preview run.mode ≡ false)
-    (apart : KeepsApart (rows_of run)) (legal : IsLegal run spelling history) where
+    (apart : KeepsApart (rows_of run)) (orderly : IsOrderly run history) where
   abbrev known : Known
   known = known_of run history
 
   all_decided : (m : ℕ) → is_recorded known m ≡ true → is_some (decided_goal known m) ≡ true
-  all_decided m h = let there = recorded-held run spelling history m legal h in ap (λ (o : Option Decided). is_some o) there.2.decided
+  all_decided m h = let there = recorded-held run history m orderly h in ap (λ (o : Option Decided). is_some o) there.2.decided
 
   -- ---- recorded entries
 
@@ -53,7 +55,7 @@ module _ (run : Fixed) (spelling : Spelling) (history : List Event)
 
   has_goal : (number : ℕ) (row : Entry) → is_recorded known number ≡ true → recorded_entry known number ≡ Some row → HasGoal number row
   has_goal number row recorded is =
-      let there = recorded-held run spelling history number legal recorded in
+      let there = recorded-held run history number orderly recorded in
       let found = recording-there run history number there.0 there.1 recorded in
       let whole = entry-there known number there.0 there.1 found.0 there.2.stands there.2.decided found.1 in
       let same : whole.0 ≡ row = some_same whole.0 row (sym whole.1 ∙ is) in
@@ -70,7 +72,7 @@ module _ (run : Fixed) (spelling : Spelling) (history : List Event)
   numbers_apart = pairs-reverse (λ (m n : ℕ). m ≢ n) (λ m n other same. other (sym same)) (recorded_of known.history)
       (once_apart (recorded_of known.history) (λ n.
       subst (λ (events : List Event). length (filter (λ other. other == n) (recorded_of events)) ≤ 1) (sym (history_of run history))
-      (recorded_at_most_once run spelling history n legal)))
+      (recorded_at_most_once run history n orderly)))
 
   new_apart : Pairwise AreApart (new_entries known)
   new_apart = pairs-mapped (recorded_entry known) AreApart numbers
@@ -79,7 +81,7 @@ module _ (run : Fixed) (spelling : Spelling) (history : List Event)
       (λ m n first second other y z is too. λ stays also same.
       let a = has_goal m y first is in
       let b = has_goal n z second too in
-      other (goals-apart run spelling history m n a.goal b.goal names legal a.stands b.stands (sym a.urn ∙ same ∙ b.urn)))
+      other (goals-apart run history m n a.goal b.goal names orderly a.stands b.stands (sym a.urn ∙ same ∙ b.urn)))
       numbers recorded_each numbers_apart)
 
   -- ---- old entries
@@ -153,7 +155,7 @@ module _ (run : Fixed) (spelling : Spelling) (history : List Event)
       let b = stood row z left too also in
       let listed : has_number (recorded_of history) number ≡ true =
       subst (λ (events : List Event). has_number (recorded_of events) number ≡ true) (history_of run history) recorded in
-      let free = free-recorded run spelling real apart history number legal listed in
+      let free = free-recorded run real apart history number orderly listed in
       let goal_same : free.goal ≡ a.goal = some_same free.goal a.goal (sym free.stands ∙ a.stands) in
       free.none row b.entry b.stands left b.unmarked (unclaimed number row free.one recorded free.decided left b.unmarked)
       (sym b.urn ∙ sym same ∙ a.urn ∙ sym (ap (λ (goal : Goal). goal.urn) goal_same))

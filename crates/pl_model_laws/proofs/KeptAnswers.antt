@@ -17,14 +17,19 @@ use Rattle.pl_events.specs.declared.operation.Op.TheVariants as op
 use Rattle.pl_events.specs.declared.operation.Subject.TheVariants as subject
 use Rattle.pl_events.specs.declared.reply.Reply.{Reply}
 use Rattle.pl_events.specs.declared.reply.Reply.TheVariants as reply
-use Rattle.pl_model.specs.Run.{Fixed, Pairs}
-use Rattle.pl_model.specs.Tickets.{Closed, answers_of, closed_by, reply_if, reply_to, same_op}
+use Rattle.pl_model.specs.declared.errand.Closed.{Closed}
+use Rattle.pl_model.specs.declared.fixed.Fixed.{Fixed}
+use Rattle.pl_model.specs.declared.heard.Fate.{Fate}
+use Rattle.pl_model.specs.declared.heard.Fate.TheVariants.{Accepted as accepted, Halted as halted, Refused as refused}
+use Rattle.pl_model.specs.declared.heard.Heard.{Heard}
+use Rattle.pl_model.specs.Run.{Pairs}
+use Rattle.pl_model.specs.Tickets.{answers_of, closed_by, reply_if, reply_to, same_op}
 use Rattle.pl_model.specs.Recording.{cleared_in, cleared_of, has_number, is_gone, is_removed, is_thing, only_if, recorded_by, recorded_by_reply, recorded_of, removed_by, removed_by_reply, removed_of}
 use Rattle.pl_model.specs.Claims.{first_some, goal_number}
 use Rattle.pl_model.specs.Due.{is_recorded_about}
 use Rattle.pl_model.specs.Entries.{told_by, told_outputs}
 use Rattle.pl_model.specs.History.{asked_after, known_of}
-use Rattle.pl_model.specs.Known.{Asked, Fate, accepted, halted, refused, Known, is_recorded}
+use Rattle.pl_model.specs.Known.{Known, is_recorded}
 use Rattle.pl_model.specs.Problems.{reads_row}
 use Rattle.pl_model.specs.Requests.{asked_by, fate_of}
 use Rattle.pl_model.specs.Rows.{pending_at}
@@ -267,7 +272,7 @@ module _ (run : Fixed) (event : Event) (past : List Event)
   asked_is = refl
 
   module _ (number : ℕ) (recorded : is_recorded before number ≡ true) where
-    abbrev told_in : Asked → Option Pairs
+    abbrev told_in : Heard → Option Pairs
     told_in asked = told_by number asked.request asked.about
 
     -- a request tells no outputs of a recorded goal
@@ -304,7 +309,7 @@ module _ (run : Fixed) (event : Event) (past : List Event)
         by (refused problem) h = refl
 
     pub told-same : told_outputs after number ≡ told_outputs before number
-    told-same = ap (λ (all : List Asked). first_some told_in all) asked_is ∙ by event.what unsaved
+    told-same = ap (λ (all : List Heard). first_some told_in all) asked_is ∙ by event.what unsaved
       where
         by : (what : What) → changes_state before what ≡ false → first_some told_in (asked_after before what) ≡ first_some told_in before.asked
         by (Told request) h = ap (λ (o : Option Pairs). option_or o (first_some told_in before.asked)) (tells_none request h)

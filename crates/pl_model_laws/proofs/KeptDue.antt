@@ -2,7 +2,6 @@
 use Rattle.std.proofs.Common.{◌≡◌, ℕ, ◌+◌, ◌==◌, ◌≤◌, ◌<◌, Bool, true, false, not, ◌&&◌, ◌||◌, if◌then◌else◌, List, [], ◌∷◌, find, get_or, length, slice_get, Option, Some, None, is_some, refl, sym, ◌∙◌, ap, subst, inl, inr, ◌⊎◌, arith, option_map, option_and_then}
 use Rattle.std.proofs.lemmas.Option.{slice_get_cases}
 use Rattle.std.specs.List.{enumerate_from}
-use Rattle.std.specs.Option.{option_or}
 use Rattle.pl_state.specs.Chain.{some_passes}
 use Rattle.pl_state.specs.Kinds.{is_importing_goal, is_provided, is_provider_goal, is_reading_goal, kin_of}
 use Rattle.pl_state.specs.declared.entry.Entry.{Entry}
@@ -25,18 +24,22 @@ use Rattle.pl_decide.specs.Table.{custom_differs, decide, decide_kin, kin_needs_
 use Rattle.pl_decide.specs.declared.decision.Decision.{Decision}
 use Rattle.pl_decide.specs.declared.decision.Decision.TheVariants as decision
 use Rattle.pl_decide.specs.declared.decision.ProviderChange.{ProviderChange}
-use Rattle.pl_decide.specs.declared.problem.Problem.{Problem}
 use Rattle.pl_decide.specs.declared.problem.Problem.TheVariants.{CustomChanged, ReadOverManaged}
-use Rattle.pl_model.specs.Run.{Fixed, Pairs, Spelling, imports_of, is_refresh, rows_of}
-use Rattle.pl_model.specs.Tickets.{Closed, answers_of, reply_to, same_op, was_begun}
+use Rattle.pl_model.specs.declared.decided.Decided.{Decided}
+use Rattle.pl_model.specs.declared.errand.Closed.{Closed}
+use Rattle.pl_model.specs.declared.fixed.Fixed.{Fixed}
+use Rattle.pl_model.specs.declared.heard.Heard.{Heard}
+use Rattle.pl_model.specs.declared.work.Work.TheVariants.{Send as to_send}
+use Rattle.pl_model.specs.Run.{Pairs, imports_of, is_refresh, rows_of}
+use Rattle.pl_model.specs.Tickets.{answers_of, reply_to, same_op, was_begun}
 use Rattle.pl_model.specs.Asked.{ask_diff, ask_diff_over, ask_invoke, ask_of, provider_inputs, turn_on}
-use Rattle.pl_model.specs.Claims.{Decided, claimed_row, is_row, numbered}
-use Rattle.pl_model.specs.Decisions.{Turn, chain_refusal, change_at, checked_at, checked_in, claim_at, decided_at, decided_by, decided_of, decision_at, diff_at, final_decision, inputs_at, is_provider_unknown, is_refused, kin_at, limit_refusal, needs_check, number_at, refused_by, turn_of, wants_diff}
-use Rattle.pl_model.specs.Due.{asks_check, asks_config, asks_diff, at_turn, is_asked, is_carried_out, is_checked_lane, is_imported, is_invoke, is_next_lane, is_placed, is_ready_on, is_removable, is_wanted_op, may_configure, op_of_decision, op_of_goal, passes_limit, provider_recorded, sends_goal, to_send, wants_lane, way_is_free}
+use Rattle.pl_model.specs.Claims.{claimed_row, is_row, numbered}
+use Rattle.pl_model.specs.Decisions.{Turn, change_at, checked_at, checked_in, claim_at, decided_at, decided_by, decided_of, decision_at, diff_at, inputs_at, is_provider_unknown, kin_at, needs_check, number_at, turn_of, wants_diff}
+use Rattle.pl_model.specs.Due.{asks_check, asks_config, asks_diff, at_turn, is_asked, is_carried_out, is_checked_lane, is_imported, is_invoke, is_next_lane, is_placed, is_ready_on, is_removable, is_wanted_op, may_configure, op_of_decision, op_of_goal, passes_limit, provider_recorded, sends_goal, wants_lane, way_is_free}
 use Rattle.pl_model.specs.Entries.{is_update}
 use Rattle.pl_model.specs.History.{known_of}
-use Rattle.pl_model.specs.Known.{Asked, Known, asked_at, decided_goal, goal_at, has_problem, next_turn, turn_of_goal}
-use Rattle.pl_model.specs.Legal.{IsLegal, MayHappen}
+use Rattle.pl_model.specs.Known.{Known, asked_at, decided_goal, goal_at, has_problem, next_turn, turn_of_goal}
+use Rattle.pl_model.specs.Legal.{IsOrderly, MayHappen}
 use Rattle.pl_model.specs.Problems.{creates_urn, is_to_read, pending_create}
 use Rattle.pl_model.specs.Rows.{goes_with, is_deletable, is_sent, pending_at, row_at}
 use Rattle.pl_model.specs.Saves.{is_covered}
@@ -44,7 +47,7 @@ use Rattle.pl_model.specs.State.{pending_for}
 use Rattle.pl_model_laws.specs.Kept.{DueAsked, DueOpens}
 use Rattle.pl_model_laws.proofs.Among.{any_found}
 use Rattle.pl_model_laws.proofs.Calm.{decided-grown}
-use Rattle.pl_model_laws.proofs.Claiming.{claim_is, decided_parts, found_at, was-made}
+use Rattle.pl_model_laws.proofs.Claiming.{claim_is, decided_parts, final_fails, found_at, was-made}
 use Rattle.pl_model_laws.proofs.Configuring.{replied-begun}
 use Rattle.pl_model_laws.proofs.Growing.{Grown, decided_as, equal_numbers, length_added, run_of}
 use Rattle.pl_model_laws.proofs.Lanes.{either_true}
@@ -76,17 +79,8 @@ table_not_update claim goal change checked diff none =
     by false false true = refl
     by false false false = refl
 
--- nor does what the chain and the limits say to it
-final_not_update : (turn : Turn) (choice : Decision) → is_update choice ≡ false → is_update (final_decision turn choice) ≡ false
-final_not_update turn choice h = by (is_refused choice) (option_or (chain_refusal turn choice) (limit_refusal turn choice))
-  where
-    by : (b : Bool) (o : Option Problem) → is_update (if b then choice else refused_by o choice) ≡ false
-    by true o = h
-    by false None = h
-    by false (Some problem) = refl
-
 -- what is decided to be changed has its kin
-abbrev HasKin : Fixed → Decided → Type 0
+abbrev pub HasKin : Fixed → Decided → Type 0
 HasKin run one = is_update one.decision ≡ true → is_some (kin_of (claimed_row run one.claim)) ≡ true
 
 decided_kin : (turn : Turn) (checked : Pairs) (diff : Option Diffed) → HasKin turn.run (decided_by turn checked diff)
@@ -96,11 +90,11 @@ decided_kin turn checked diff h = by (kin_of (claim_at turn)) refl
     by (Some kin) is = ap (λ (o : Option Entry). is_some o) is
     by None is =
         let none : is_update (decision_at turn checked diff) ≡ false =
-        final_not_update turn (decide (claim_at turn) turn.goal (change_at turn) checked diff)
+        final_fails is_update turn (decide (claim_at turn) turn.goal (change_at turn) checked diff) (λ problem. refl)
         (table_not_update (claim_at turn) turn.goal (change_at turn) checked diff is) in
         absurd (let e : true ≡ false = sym h ∙ none in cc)
 
-update_kin : (run : Fixed) (history : List Event) (number : ℕ) (one : Decided)
+pub update_kin : (run : Fixed) (history : List Event) (number : ℕ) (one : Decided)
     → decided_goal (known_of run history) number ≡ Some one → HasKin (known_of run history).run one
 update_kin run history number one h =
     let made = was-made run history number one h in
@@ -194,7 +188,7 @@ module _ (known : Known) where
           let same : k ≡ at = omega arith in
           (found.1, subst (λ (n : ℕ). slice_get known.run.base.pending n ≡ Some found.1) same place.3)
 
-  invoke_there : (asked : Asked) → is_invoke known asked.request asked.about ≡ true → is_some (ask_invoke asked.request) ≡ true
+  invoke_there : (asked : Heard) → is_invoke known asked.request asked.about ≡ true → is_some (ask_invoke asked.request) ≡ true
   invoke_there asked h = by asked.request asked.about h
     where
       by : (request : Request) (about : Option ℕ) → is_invoke known request about ≡ true → is_some (ask_invoke request) ≡ true
@@ -242,7 +236,7 @@ module _ (known : Known) where
         let it = imported_there at (and_right (is_refresh known.run.mode) (is_imported known at) h) in rw it.1 refl
     asked_there (op.Invoke n) h =
         let it = passes_some (λ asked. is_invoke known asked.request asked.about) (asked_at known n) h in
-        ap (λ (o : Option Asked). is_some (option_and_then (λ (asked : Asked). ask_invoke asked.request) o)) it.1
+        ap (λ (o : Option Heard). is_some (option_and_then (λ (asked : Heard). ask_invoke asked.request) o)) it.1
         ∙ invoke_there it.0 it.2
 
   -- what is asked and changes a thing opens what is pending
@@ -268,7 +262,7 @@ module _ (known : Known) where
 
 -- ---- a provider whose inputs were checked is decided
 
-module _ (run : Fixed) (spelling : Spelling) (number : ℕ) where
+module _ (run : Fixed) (number : ℕ) where
   abbrev check : Op
   check = op.CheckConfig (subject.Goal number)
 
@@ -282,7 +276,7 @@ module _ (run : Fixed) (spelling : Spelling) (number : ℕ) where
       ap (λ (ones : List Decided). length ones) grown.1 ∙ length_added grown.0 (known_of run past).decided in
       omega arith
 
-  reached_step : (past : List Event) (seat : ℕ) (what : What) → MayHappen spelling (known_of run past) seat what
+  reached_step : (past : List Event) (seat : ℕ) (what : What) → MayHappen (known_of run past) seat what
       → was_begun (record { seat = seat; what = what } ∷ past) check ≡ true → (was_begun past check ≡ true → Reached past) → Reached past
   reached_step past seat (Begun ticket lane about) may begun rest = by (same_op about check) refl begun
     where
@@ -302,12 +296,12 @@ module _ (run : Fixed) (spelling : Spelling) (number : ℕ) where
   reached_step past seat _ may begun rest = rest begun
 
   -- where a provider's inputs are asked to be checked, the goals before it are decided
-  reached : (history : List Event) → IsLegal run spelling history → was_begun history check ≡ true → Reached history
-  reached [] legal begun = absurd (let e : false ≡ true = begun in cc)
-  reached (event ∷ past) legal begun =
-      grown_count event past (reached_step past event.seat event.what legal.1 begun (reached past legal.0))
+  reached : (history : List Event) → IsOrderly run history → was_begun history check ≡ true → Reached history
+  reached [] orderly begun = absurd (let e : false ≡ true = begun in cc)
+  reached (event ∷ past) orderly begun =
+      grown_count event past (reached_step past event.seat event.what orderly.1 begun (reached past orderly.0))
 
-  module _ (history : List Event) (legal : IsLegal run spelling history) (fields : Pairs)
+  module _ (history : List Event) (orderly : IsOrderly run history) (fields : Pairs)
       (said : checked_in (reply_to (known_of run history).answers check) ≡ Some fields) where
     abbrev known : Known
     known = known_of run history
@@ -356,7 +350,7 @@ module _ (run : Fixed) (spelling : Spelling) (number : ℕ) where
       where
         never : length known.decided ≡ number → ⊥
         never count =
-            let provider = check-provider run spelling number history legal was in
+            let provider = check-provider run number history orderly was in
             let ones : known.decided ≡ decided_of known.run known.answers known.goals =
             decided_as run history ∙ ap (λ (answers : List Closed). decided_of known.run answers known.goals) (sym (answers_as run history)) in
             let same : length (decided_of known.run known.answers known.goals) ≡ number =
@@ -368,7 +362,7 @@ module _ (run : Fixed) (spelling : Spelling) (number : ℕ) where
 
         by : (o : Option Decided) → decided_goal known number ≡ o → is_some (decided_goal known number) ≡ true
         by (Some one) is = ap (λ (o : Option Decided). is_some o) is
-        by None is = absurd (never (exact known.decided number (reached history legal was) is))
+        by None is = absurd (never (exact known.decided number (reached history orderly was) is))
 
 -- ---- what is due
 
@@ -382,13 +376,13 @@ row_there told row low = by (slice_get_cases (rows_of told.run) row).1
     by (inl there) = ap (λ (o : Option Entry). is_some o) there.2
     by (inr past) = absurd (let high : length (rows_of told.run) ≤ row = past.0 in omega arith)
 
-module _ (run : Fixed) (spelling : Spelling) (history : List Event) (legal : IsLegal run spelling history) where
+module _ (run : Fixed) (history : List Event) (orderly : IsOrderly run history) where
   abbrev now : Known
   now = known_of run history
 
   source_there : (provider : Source) → IsSourceThere now provider → is_some (provider_inputs now provider) ≡ true
   source_there (source.Goal number) h =
-      let there = recorded-held run spelling history number legal h in rw there.2.decided refl
+      let there = recorded-held run history number orderly h in rw there.2.decided refl
   source_there (source.Row row) h =
       let there = some_there (row_at now row) (row_there now row h) in rw there.1 refl
 
@@ -396,7 +390,7 @@ module _ (run : Fixed) (spelling : Spelling) (history : List Event) (legal : IsL
   checked_there (source.Goal number) lane h =
       let it = passes_some (may_configure now) (checked_in (reply_to now.answers (op.CheckConfig (subject.Goal number))))
       (and_left _ _ (and_left _ _ (and_left _ _ (and_left _ _ h)))) in
-      let one = some_there (decided_goal now number) (checked_decided run spelling number history legal it.0 it.1) in
+      let one = some_there (decided_goal now number) (checked_decided run number history orderly it.0 it.1) in
       rw one.1 refl
   checked_there (source.Row row) lane h = absurd (let e : false ≡ true = h in cc)
 
@@ -431,11 +425,11 @@ module _ (run : Fixed) (spelling : Spelling) (history : List Event) (legal : IsL
   ready_opens _ lane h covered = absurd (let e : false ≡ true = covered in cc)
 
 pub due-asked : DueAsked
-due-asked = λ run spelling history about lane legal due.
-    ready_asked run spelling history legal about lane
+due-asked = λ run history about lane orderly due.
+    ready_asked run history orderly about lane
     (and_left (is_ready_on (known_of run history) about lane) (not (passes_limit (known_of run history) (to_send about))) due)
 
 pub due-opens : DueOpens
-due-opens = λ run spelling history about lane legal due covered.
-    ready_opens run spelling history legal about lane
+due-opens = λ run history about lane orderly due covered.
+    ready_opens run history orderly about lane
     (and_left (is_ready_on (known_of run history) about lane) (not (passes_limit (known_of run history) (to_send about))) due) covered

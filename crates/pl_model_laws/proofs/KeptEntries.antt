@@ -7,15 +7,17 @@ use Rattle.pl_state.specs.declared.goal.Goal.{Goal}
 use Rattle.pl_events.specs.declared.event.Event.{Event}
 use Rattle.pl_events.specs.declared.event.What.{What}
 use Rattle.pl_events.specs.declared.event.What.TheVariants.{Kept}
-use Rattle.pl_model.specs.Run.{Fixed, Spelling}
-use Rattle.pl_model.specs.Tickets.{Closed, closed_by}
+use Rattle.pl_model.specs.declared.decided.Decided.{Decided}
+use Rattle.pl_model.specs.declared.errand.Closed.{Closed}
+use Rattle.pl_model.specs.declared.fixed.Fixed.{Fixed}
+use Rattle.pl_model.specs.Tickets.{closed_by}
 use Rattle.pl_model.specs.Recording.{fresh_by, fresh_of, has_number, only_if, recorded_by_reply, recorded_of}
-use Rattle.pl_model.specs.Claims.{Decided, claimed_row, kept_provider_id}
+use Rattle.pl_model.specs.Claims.{claimed_row, kept_provider_id}
 use Rattle.pl_model.specs.Decisions.{checked_at}
 use Rattle.pl_model.specs.Entries.{Result, entry_of, goal_entry, numbers_in, recording_of, reference_to, result_answered, result_by, result_from, result_kept, result_of_keep, result_of_reply}
 use Rattle.pl_model.specs.History.{known_of}
 use Rattle.pl_model.specs.Known.{Known, checked_of, claim_of, claim_row, decided_goal, goal_at, is_recorded, provider_id, turn_of_goal}
-use Rattle.pl_model.specs.Legal.{IsLegal, MayHappen}
+use Rattle.pl_model.specs.Legal.{IsOrderly, MayHappen}
 use Rattle.pl_model_laws.specs.Kept.{EntriesStay, RecordedHasEntry}
 use Rattle.pl_model_laws.proofs.Growing.{decisions-stay, equal_numbers, goals-stay, run_of}
 use Rattle.pl_model_laws.proofs.Once.{history_of}
@@ -24,9 +26,9 @@ use Rattle.pl_model_laws.proofs.Standing.{claim-of-decided, entry-there, entry_i
 use Rattle.pl_model_laws.proofs.Staying.{IsThere, provider_recorded, recorded-as}
 
 pub recorded-has-entry : RecordedHasEntry
-recorded-has-entry = λ run spelling history number legal h.
+recorded-has-entry = λ run history number orderly h.
     let known : Known = known_of run history in
-    let there = recorded-held run spelling history number legal h in
+    let there = recorded-held run history number orderly h in
     let result = recording-there run history number there.0 there.1 h in
     let row = entry-there known number there.0 there.1 result.0 there.2.stands there.2.decided result.1 in
     ap (λ (o : Option Entry). is_some o) row.1
@@ -71,7 +73,7 @@ reference_by goal id = option_map (λ one. record { urn = goal.urn; id = one }) 
 abbrev provided_by : Option ProviderRef → Entry → Entry
 provided_by provider entry = record entry { provider = provider }
 
-module _ (run : Fixed) (spelling : Spelling) (event : Event) (past : List Event) (legal : IsLegal run spelling (event ∷ past)) where
+module _ (run : Fixed) (event : Event) (past : List Event) (orderly : IsOrderly run (event ∷ past)) where
   abbrev before : Known
   before = known_of run past
 
@@ -83,7 +85,7 @@ module _ (run : Fixed) (spelling : Spelling) (event : Event) (past : List Event)
 
   -- no event gives a number to a goal that is recorded
   none_fresh : (number : ℕ) → has_number (recorded_of past) number ≡ true → (what : What)
-      → MayHappen spelling before event.seat what → fresh_by number what ≡ None
+      → MayHappen before event.seat what → fresh_by number what ≡ None
   none_fresh number h (Kept kept fresh) may = by (kept == number) refl
     where
       by : (b : Bool) → (kept == number) ≡ b → only_if b fresh ≡ None
@@ -91,13 +93,13 @@ module _ (run : Fixed) (spelling : Spelling) (event : Event) (past : List Event)
       by true is =
           let new : has_number (recorded_of past) number ≡ false =
           subst (λ (n : ℕ). has_number (recorded_of past) n ≡ false) (equal_numbers kept number is)
-          (recording-new run spelling event.seat past (Kept kept fresh) kept legal.0 may refl) in
+          (recording-new run event.seat past (Kept kept fresh) kept orderly.0 may refl) in
           absurd (let e : true ≡ false = sym h ∙ new in cc)
   none_fresh number h _ may = refl
 
   module _ (number : ℕ) (recorded : is_recorded before number ≡ true) where
     there : IsThere before number
-    there = recorded-held run spelling past number legal.0 recorded
+    there = recorded-held run past number orderly.0 recorded
 
     stands_after : goal_at after number ≡ Some there.0
     stands_after = goals-stay run event past number there.0 there.2.stands
@@ -120,7 +122,7 @@ module _ (run : Fixed) (spelling : Spelling) (event : Event) (past : List Event)
     fresh_stays =
         ap (λ (events : List Event). fresh_of events number) (history_of run (event ∷ past))
         ∙ ap (λ (o : Option ℕ). option_or (fresh_of past number) o)
-        (none_fresh number (sym (recorded-as run past number) ∙ recorded) event.what legal.1)
+        (none_fresh number (sym (recorded-as run past number) ∙ recorded) event.what orderly.1)
         ∙ or_none (fresh_of past number)
         ∙ ap (λ (events : List Event). fresh_of events number) (sym (history_of run past))
 
@@ -167,8 +169,8 @@ module _ (run : Fixed) (spelling : Spelling) (event : Event) (past : List Event)
         ∙ sym (entry_is before number goal one found.0 (there number recorded).2.stands (there number recorded).2.decided found.1)
 
 pub entries-stay : EntriesStay
-entries-stay = λ run spelling event past number legal recorded. record {
-  claim = claim-stays run spelling event past legal number recorded;
-  checked = checked_stays run spelling event past legal number recorded;
-  entry = entry_stays run spelling event past legal number recorded;
+entries-stay = λ run event past number orderly recorded. record {
+  claim = claim-stays run event past orderly number recorded;
+  checked = checked_stays run event past orderly number recorded;
+  entry = entry_stays run event past orderly number recorded;
 }

@@ -10,14 +10,17 @@ use Rattle.pl_state.specs.declared.goal.Goal.{Goal}
 use Rattle.pl_events.specs.declared.event.Event.{Event}
 use Rattle.pl_events.specs.declared.operation.Op.TheVariants as op
 use Rattle.pl_events.specs.declared.operation.Subject.TheVariants as subject
-use Rattle.pl_model.specs.Run.{Fixed, Pairs, Spelling, is_refresh, rows_of}
+use Rattle.pl_model.specs.declared.decided.Decided.{Decided}
+use Rattle.pl_model.specs.declared.fixed.Fixed.{Fixed}
+use Rattle.pl_model.specs.Run.{Pairs, is_refresh, rows_of}
 use Rattle.pl_model.specs.Tickets.{reply_to}
 use Rattle.pl_model.specs.Recording.{has_number, recorded_of}
-use Rattle.pl_model.specs.Claims.{Decided, claimer_of, is_create_first, is_delete_first, is_row}
+use Rattle.pl_decide.specs.Limited.{is_create_first, is_delete_first}
+use Rattle.pl_model.specs.Claims.{claimer_of, is_row}
 use Rattle.pl_model.specs.Entries.{Turning, entry_of, new_entries, old_entries, old_row, recorded_entry, told_outputs, turned_entry, turning_of, turnings, with_outputs}
 use Rattle.pl_model.specs.History.{known_of}
 use Rattle.pl_model.specs.Known.{Known, claim_row, decided_goal, goal_at, is_recorded}
-use Rattle.pl_model.specs.Legal.{IsLegal}
+use Rattle.pl_model.specs.Legal.{IsOrderly}
 use Rattle.pl_model.specs.Rows.{is_deleted_first, is_held, is_left, is_marked, is_replaced, is_taken_out, is_taken_over, is_to_be_made, left_rows, recorded_claimer, row_at, row_numbers, stands_beside, was_removed}
 use Rattle.pl_model.specs.Saves.{changes_state}
 use Rattle.pl_model.specs.State.{entries_now, imported_entries, refreshed_entries, row_read, rows_read}
@@ -55,7 +58,7 @@ same_test true b there back = sym (there refl)
 same_test false true there back = back refl
 same_test false false there back = refl
 
-module _ (run : Fixed) (spelling : Spelling) (event : Event) (past : List Event) (legal : IsLegal run spelling (event ∷ past))
+module _ (run : Fixed) (event : Event) (past : List Event) (orderly : IsOrderly run (event ∷ past))
     (unsaved : changes_state (known_of run past) event.what ≡ false) where
   abbrev before : Known
   before = known_of run past
@@ -86,17 +89,17 @@ module _ (run : Fixed) (spelling : Spelling) (event : Event) (past : List Event)
       (λ number recorded.
       ap (λ (told : Option Pairs). option_map (with_outputs told) (entry_of after number)) (told-same run event past unsaved number recorded)
       ∙ ap (λ (o : Option Entry). option_map (with_outputs (told_outputs before number)) o)
-      (entries-stay run spelling event past number legal recorded).entry)
+      (entries-stay run event past number orderly recorded).entry)
 
   turns_same : turnings after ≡ turnings before
   turns_same =
       each_recorded turning_of
       (λ number recorded.
-      let there = recorded-held run spelling past number legal.0 recorded in
+      let there = recorded-held run past number orderly.0 recorded in
       ap (λ (o : Option Goal). option_and_then (λ (goal : Goal). turning_by goal (claim_row after number)) o)
       (goals-stay run event past number there.0 there.2.stands ∙ sym there.2.stands)
       ∙ ap (λ (o : Option Entry). option_and_then (λ (goal : Goal). turning_by goal o) (goal_at before number))
-      (claim-row-stays run spelling event past legal number recorded))
+      (claim-row-stays run event past orderly number recorded))
     where
       turning_by : Goal → Option Entry → Option Turning
       turning_by goal claim =
@@ -116,7 +119,7 @@ module _ (run : Fixed) (spelling : Spelling) (event : Event) (past : List Event)
 
   first_same : (row : ℕ) → was_removed before row ≡ true → is_deleted_first after row ≡ is_deleted_first before row
   first_same row removed =
-      same_test (is_deleted_first after row) (is_deleted_first before row) (first-before run spelling event past legal row removed)
+      same_test (is_deleted_first after row) (is_deleted_first before row) (first-before run event past orderly row removed)
       (first_after row)
 
   -- so a row is taken out, or held, as it was
@@ -140,7 +143,7 @@ module _ (run : Fixed) (spelling : Spelling) (event : Event) (past : List Event)
       ap (λ (events : List Event). has_number (recorded_of events) number) (history_of run past)
       ∙ ap (λ (numbers : List ℕ). has_number numbers number) (sym (recorded-same run event past unsaved)) ∙ parts.2 in
       let found = claimer_found after.decided row number parts.1 in
-      let there = recorded-held run spelling past number legal.0 recorded in
+      let there = recorded-held run past number orderly.0 recorded in
       let stays : decided_goal after number ≡ Some there.1 = decisions-stay run event past number there.1 there.2.decided in
       let same : found.0 ≡ there.1 = some_same found.0 there.1 (sym found.1 ∙ stays) in
       let claims : is_row there.1.claim row ≡ true = subst (λ (one : Decided). is_row one.claim row ≡ true) same found.2 in

@@ -6,7 +6,7 @@ use Rattle.pl_reference.specs.Reference.{reference_text}
 use Rattle.pl_reference.specs.declared.reference.ProviderRef.{ProviderRef}
 use Rattle.pl_state.specs.Chain.{last_provider, provider_row_of, some_passes}
 use Rattle.pl_state.specs.Kinds.{is_provided, is_provider_goal}
-use Rattle.pl_state.specs.Sound.{IsSound}
+use Rattle.pl_sound.specs.Sound.{IsSound}
 use Rattle.pl_state.specs.declared.entry.Entry.{Entry}
 use Rattle.pl_state.specs.declared.goal.Goal.{Goal}
 use Rattle.pl_state.specs.declared.pending.Pending.{Pending}
@@ -20,14 +20,17 @@ use Rattle.pl_events.specs.declared.operation.Source.TheVariants as source
 use Rattle.pl_events.specs.declared.operation.Subject.TheVariants as subject
 use Rattle.pl_decide.specs.declared.problem.Problem.{Problem}
 use Rattle.pl_decide.specs.declared.problem.Problem.TheVariants as problem
-use Rattle.pl_model.specs.Run.{Fixed, HasNames, Spelling, imports_of, is_preview, is_refresh, rows_of}
+use Rattle.pl_model.specs.declared.fixed.Fixed.{Fixed}
+use Rattle.pl_model.specs.declared.heard.Heard.{Heard}
+use Rattle.pl_model.specs.Run.{HasNames, imports_of, is_preview, is_refresh, rows_of}
 use Rattle.pl_model.specs.Tickets.{same_op}
-use Rattle.pl_model.specs.Claims.{first_some, is_delete_first, is_row, numbered}
+use Rattle.pl_decide.specs.Limited.{is_delete_first}
+use Rattle.pl_model.specs.Claims.{first_some, is_row, numbered}
 use Rattle.pl_model.specs.Decisions.{Turn, checked_at, is_provider_unknown, needs_check, number_at, wants_diff}
 use Rattle.pl_model.specs.Due.{asks_check, asks_diff, at_turn, for_decided, is_asked, is_carried_out, is_imported, is_invoke, is_placed, is_removable, is_unsent, op_of_decision, op_of_goal, provider_recorded, sends_goal, source_of_op, way_is_free}
 use Rattle.pl_model.specs.History.{known_of}
-use Rattle.pl_model.specs.Known.{Asked, Known, asked_at, goal_at, has_problem, is_over, is_recorded, next_turn}
-use Rattle.pl_model.specs.Legal.{IsLegal}
+use Rattle.pl_model.specs.Known.{Known, asked_at, goal_at, has_problem, is_over, is_recorded, next_turn}
+use Rattle.pl_model.specs.Legal.{IsOrderly}
 use Rattle.pl_model.specs.Problems.{import_problem, imported_entry, is_to_read, lacks_provider, names_none, pending_create, refresh_problems, unmet_provider, unread_row}
 use Rattle.pl_model.specs.Rows.{goes_with, has_dependents, is_deletable, is_doomed, is_sent, pending_at, row_at, source_of_goal, source_of_pending, source_of_provider, source_of_row, takes_along, was_removed}
 use Rattle.pl_model_laws.specs.Kept.{SentSourced}
@@ -91,8 +94,8 @@ met_row run entry reference is h = by (is_some (last_provider (Some reference) (
     by true h = refl
     by false h = absurd (let none : Option (List ℕ) = None in let e : Some (reference_text reference) ≡ none = h in cc)
 
-module _ (run : Fixed) (spelling : Spelling) (history : List Event) (names : HasNames run) (sound : IsSound (rows_of run))
-    (legal : IsLegal run spelling history) (calm : has_problem (known_of run history) ≡ false) where
+module _ (run : Fixed) (history : List Event) (names : HasNames run) (sound : IsSound (rows_of run))
+    (orderly : IsOrderly run history) (calm : has_problem (known_of run history) ≡ false) where
   abbrev known : Known
   known = known_of run history
 
@@ -125,7 +128,7 @@ module _ (run : Fixed) (spelling : Spelling) (history : List Event) (names : Has
       and_right (is_placed known number it.0 it.1) _ (and_left _ (way_is_free known it.1) it.4) in
       let carried : is_carried_out known it.0 it.1.decision ≡ true =
       under_test (same_op about) (is_carried_out known it.0 it.1.decision) (op_of_decision number it.1.decision) needs in
-      let own = provided-named run spelling history number it.0 names legal it.2 (and_left (is_provided it.0) _ carried) in
+      let own = provided-named run history number it.0 names orderly it.2 (and_left (is_provided it.0) _ carried) in
       goal_source number it.0 it.2 (ap (λ (o : Option ℕ). is_some o) own.1)
 
   -- ---- rows
@@ -158,10 +161,10 @@ module _ (run : Fixed) (spelling : Spelling) (history : List Event) (names : Has
 
       by : (over : Bool) → is_over known ≡ over → (over || list_any (takes_along known row) known.decided) ≡ true
           → lacks_provider known row ≡ false
-      by true is h = end-provided run spelling history legal real (sound-apart (rows_of run) sound) calm is row entry doomed at
+      by true is h = end-provided run history orderly real (sound-apart (rows_of run) sound) calm is row entry doomed at
       by false is h =
           let it = passing_number (takes_along known row) known.decided h in
-          lacking-trouble run spelling history it.0 row it.1 entry real (sound-apart (rows_of run) sound) legal calm it.2
+          lacking-trouble run history it.0 row it.1 entry real (sound-apart (rows_of run) sound) orderly calm it.2
           (and_left (is_delete_first it.1.decision) _ it.3) it.3 at parts.left
 
   delete_source : (row : ℕ) → (is_removable known row && is_sent known row) ≡ true → is_some (source_of_row known row) ≡ true
@@ -290,19 +293,19 @@ module _ (run : Fixed) (spelling : Spelling) (history : List Event) (names : Has
   asked_source (op.Invoke n) h =
       let asked = passes_some (λ asked. is_invoke known asked.request asked.about) (asked_at known n) h in
       let about = some_there asked.0.about (invoked asked.0.request asked.0.about asked.2) in
-      ap (λ (o : Option Asked). is_some (option_map source.Goal (option_and_then (λ (one : Asked). one.about) o))) asked.1
+      ap (λ (o : Option Heard). is_some (option_map source.Goal (option_and_then (λ (one : Heard). one.about) o))) asked.1
       ∙ ap (λ (o : Option ℕ). is_some (option_map source.Goal o)) about.1
 
 pub sent-sourced : SentSourced
-sent-sourced = λ run spelling history about names sound legal asked none.
-    troubled run spelling history about names sound legal asked none (has_problem (known_of run history)) refl
+sent-sourced = λ run history about is orderly asked none.
+    troubled run history about is.names is.sound orderly asked none (has_problem (known_of run history)) refl
   where
-    troubled : (run : Fixed) (spelling : Spelling) (history : List Event) (about : Op) → HasNames run → IsSound (rows_of run)
-        → IsLegal run spelling history → is_asked (known_of run history) about ≡ true → source_of_op (known_of run history) about ≡ None
+    troubled : (run : Fixed) (history : List Event) (about : Op) → HasNames run → IsSound (rows_of run)
+        → IsOrderly run history → is_asked (known_of run history) about ≡ true → source_of_op (known_of run history) about ≡ None
         → (b : Bool) → has_problem (known_of run history) ≡ b → has_problem (known_of run history) ≡ true
-    troubled run spelling history about names sound legal asked none true is = is
-    troubled run spelling history about names sound legal asked none false is =
+    troubled run history about names sound orderly asked none true is = is
+    troubled run history about names sound orderly asked none false is =
         let there : is_some (source_of_op (known_of run history) about) ≡ true =
-        asked_source run spelling history names sound legal is about asked in
+        asked_source run history names sound orderly is about asked in
         let nothing : is_some (source_of_op (known_of run history) about) ≡ false = ap (λ (o : Option Source). is_some o) none in
         absurd (let e : true ≡ false = sym there ∙ nothing in cc)

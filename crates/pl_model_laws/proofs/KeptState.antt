@@ -12,13 +12,16 @@ use Rattle.pl_events.specs.declared.event.What.TheVariants.{Begun, Answered}
 use Rattle.pl_events.specs.declared.operation.Op.{Op}
 use Rattle.pl_events.specs.declared.operation.Op.TheVariants as op
 use Rattle.pl_events.specs.declared.reply.Reply.{Reply}
-use Rattle.pl_model.specs.Run.{Fixed, Spelling, is_preview}
-use Rattle.pl_model.specs.Tickets.{Errand, begun_of, closed_by, errand_at, errand_of}
+use Rattle.pl_model.specs.declared.errand.Errand.{Errand}
+use Rattle.pl_model.specs.declared.errand.Opened.{Opened}
+use Rattle.pl_model.specs.declared.fixed.Fixed.{Fixed}
+use Rattle.pl_model.specs.Run.{is_preview}
+use Rattle.pl_model.specs.Tickets.{begun_of, closed_by, errand_at, errand_of}
 use Rattle.pl_model.specs.History.{known_of}
 use Rattle.pl_model.specs.Known.{Known}
-use Rattle.pl_model.specs.Legal.{IsLegal}
+use Rattle.pl_model.specs.Legal.{IsOrderly}
 use Rattle.pl_model.specs.Saves.{changes_state, closes_saved, is_covered}
-use Rattle.pl_model.specs.State.{Opened, base_pending, entries_now, is_answered, is_cleared, opened_by, opened_of, own_pending, pending_for, pending_of, state_of, was_answered}
+use Rattle.pl_model.specs.State.{base_pending, entries_now, is_answered, is_cleared, opened_by, opened_of, own_pending, pending_for, pending_of, state_of, was_answered}
 use Rattle.pl_model_laws.specs.Kept.{UnsavedStays}
 use Rattle.pl_model_laws.proofs.Among.{IsAmong}
 use Rattle.pl_model_laws.proofs.Growing.{equal_numbers, run_of}
@@ -110,7 +113,7 @@ each_opened run (event ∷ past) =
     by None is rest = rest
     by (Some opened) is rest = (opened_now (known_of run past) event.seat past event.what opened is, rest)
 
-module _ (run : Fixed) (spelling : Spelling) (event : Event) (past : List Event) (legal : IsLegal run spelling (event ∷ past))
+module _ (run : Fixed) (event : Event) (past : List Event) (orderly : IsOrderly run (event ∷ past))
     (unsaved : changes_state (known_of run past) event.what ≡ false) where
   abbrev before : Known
   before = known_of run past
@@ -139,7 +142,7 @@ module _ (run : Fixed) (spelling : Spelling) (event : Event) (past : List Event)
           at true is =
               let same : h.errand.ticket ≡ ticket = h.own ∙ sym (equal_numbers ticket opened.ticket is) in
               let found : errand_at past ticket ≡ Some h.errand =
-              subst (λ (n : ℕ). errand_at past n ≡ Some h.errand) same (errand-own run spelling past h.errand legal.0 h.among) in
+              subst (λ (n : ℕ). errand_at past n ≡ Some h.errand) same (errand-own run past h.errand orderly.0 h.among) in
               let saved : some_passes closes_saved (closed_by past (Answered ticket said)) ≡ true =
               ap (λ (o : Option Errand). some_passes closes_saved (option_map (with_op said) (option_map (λ (errand : Errand). errand.op) o))) found
               ∙ covers_saved h.errand.op said h.covered in
@@ -181,7 +184,7 @@ module _ (run : Fixed) (spelling : Spelling) (event : Event) (past : List Event)
   state_same =
       ap (λ (fixed : Fixed). state_by fixed (entries_now after) (pending_of after)) runs_same
       ∙ ap (λ (entries : List Entry). state_by before.run entries (pending_of after))
-      (entries-same run spelling event past legal unsaved)
+      (entries-same run event past orderly unsaved)
       ∙ ap (λ (pending : List Pending). state_by before.run (entries_now before) pending) pending_same
     where
       state_by : Fixed → List Entry → List Pending → Snapshot
@@ -197,5 +200,5 @@ unsaved_changes run past what real h =
     (ap (λ (fixed : Fixed). is_preview fixed.mode) (run_of run past) ∙ real) h
 
 pub unsaved-stays : UnsavedStays
-unsaved-stays = λ run spelling event past real legal unsaved.
-    state_same run spelling event past legal (unsaved_changes run past event.what real unsaved)
+unsaved-stays = λ run event past real orderly unsaved.
+    state_same run event past orderly (unsaved_changes run past event.what real unsaved)

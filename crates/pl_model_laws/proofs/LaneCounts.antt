@@ -9,13 +9,15 @@ use Rattle.pl_events.specs.declared.operation.Op.{Op}
 use Rattle.pl_events.specs.declared.operation.Op.TheVariants as op
 use Rattle.pl_events.specs.declared.operation.Source.{Source}
 use Rattle.pl_events.specs.declared.operation.Source.TheVariants as source
-use Rattle.pl_model.specs.Run.{Fixed, Spelling}
-use Rattle.pl_model.specs.Due.{is_checked_lane, is_next_lane, is_ready_on, passes_limit, to_send, wants_lane}
+use Rattle.pl_model.specs.declared.errand.Errand.{Errand}
+use Rattle.pl_model.specs.declared.fixed.Fixed.{Fixed}
+use Rattle.pl_model.specs.declared.work.Work.TheVariants.{Send as to_send}
+use Rattle.pl_model.specs.Due.{is_checked_lane, is_next_lane, is_ready_on, passes_limit, wants_lane}
 use Rattle.pl_model.specs.History.{known_of}
 use Rattle.pl_model.specs.Known.{Known, has_problem}
 use Rattle.pl_model.specs.Left.{times_begun}
-use Rattle.pl_model.specs.Legal.{IsLegal, MayHappen}
-use Rattle.pl_model.specs.Tickets.{Errand, begun_of, is_lost, is_out, is_source, lane_count, lane_source, lanes_from, same_op, source_begun, was_begun}
+use Rattle.pl_model.specs.Legal.{IsOrderly, MayHappen}
+use Rattle.pl_model.specs.Tickets.{begun_of, is_lost, is_out, is_source, lane_count, lane_source, lanes_from, same_op, source_begun, was_begun}
 use Rattle.pl_model_laws.proofs.Counting.{range_more, range_no_less}
 use Rattle.pl_model_laws.proofs.Lanes.{checked_source, either_true, lanes-have, next_source, source_is, source_stays}
 use Rattle.pl_model_laws.proofs.Once.{and_left, and_right, equal_ops, history_of, none_pass, not_true}
@@ -89,9 +91,9 @@ some_length : {X : Type 0} (test : X → Bool) (xs : List X) → list_any test x
 some_length test [] h = absurd (let e : false ≡ true = h in cc)
 some_length test (x ∷ xs) h = omega arith
 
--- ---- legal histories
+-- ---- orderly histories
 
-module _ (run : Fixed) (spelling : Spelling) (provider : Source) where
+module _ (run : Fixed) (provider : Source) where
   abbrev Fits : List Event → Type 0
   Fits history = times_begun history (op.Configure provider) ≤ length (lanes_from history provider)
 
@@ -128,7 +130,7 @@ module _ (run : Fixed) (spelling : Spelling) (provider : Source) where
           (lanes_next seat ticket (op.Configure provider) past provider refl) in
           omega arith
 
-  fits_step : (seat : ℕ) (past : List Event) (what : What) → MayHappen spelling (known_of run past) seat what → Fits past
+  fits_step : (seat : ℕ) (past : List Event) (what : What) → MayHappen (known_of run past) seat what → Fits past
       → Fits (record { seat = seat; what = what } ∷ past)
   fits_step seat past (Begun ticket lane about) may before = by (same_op about (op.Configure provider)) refl
     where
@@ -154,6 +156,6 @@ module _ (run : Fixed) (spelling : Spelling) (provider : Source) where
   fits_step seat past _ may before = before
 
   -- a provider has at least as many lanes as configurations of it were begun
-  pub lanes-fit : (history : List Event) → IsLegal run spelling history → Fits history
-  lanes-fit [] legal = omega arith
-  lanes-fit (event ∷ past) legal = fits_step event.seat past event.what legal.1 (lanes-fit past legal.0)
+  pub lanes-fit : (history : List Event) → IsOrderly run history → Fits history
+  lanes-fit [] orderly = omega arith
+  lanes-fit (event ∷ past) orderly = fits_step event.seat past event.what orderly.1 (lanes-fit past orderly.0)

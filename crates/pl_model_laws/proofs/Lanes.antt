@@ -1,13 +1,15 @@
--- The lanes of a legal history: each has the source of its first operation, and only a configuration configures it.
-use Rattle.std.proofs.Common.{◌≡◌, ℕ, ◌+◌, ◌==◌, ◌<◌, ◌≤◌, max, Bool, true, false, not, ◌&&◌, ◌||◌, if◌then◌else◌, cond, List, [], ◌∷◌, ◌++◌, filter, find, length, map, reverse, Option, Some, None, refl, sym, ◌∙◌, ap, subst, inl, inr, ◌⊎◌, arith, option_map, option_and_then}
+-- The lanes of an orderly history: each has the source of its first operation, and only a configuration configures it.
+use Rattle.std.proofs.Common.{◌≡◌, ℕ, ◌+◌, ◌==◌, ◌<◌, ◌≤◌, max, Bool, true, false, not, ◌&&◌, ◌||◌, if◌then◌else◌, cond, List, [], ◌∷◌, ◌++◌, filter, find, length, map, reverse, Option, Some, None, refl, sym, ◌∙◌, ap, subst, inl, inr, ◌⊎◌, arith, option_and_then}
 use Rattle.std.proofs.lemmas.Bool.Decides.{nat_tests}
 use Rattle.std.proofs.lemmas.List.{reverse-append}
 use Rattle.std.specs.List.{list_any, range_with_len}
 use Rattle.std.specs.Option.{option_or}
 use Rattle.pl_value.specs.Inside.{greatest}
+use Rattle.pl_state.specs.Chain.{some_passes}
 use Rattle.pl_events.specs.declared.event.Event.{Event}
 use Rattle.pl_events.specs.declared.event.What.{What}
 use Rattle.pl_events.specs.declared.event.What.TheVariants.{Begun, Answered}
+use Rattle.pl_events.specs.declared.operation.Call.{Call}
 use Rattle.pl_events.specs.declared.operation.Op.{Op}
 use Rattle.pl_events.specs.declared.operation.Op.TheVariants as op
 use Rattle.pl_events.specs.declared.operation.Source.{Source}
@@ -15,15 +17,17 @@ use Rattle.pl_events.specs.declared.operation.Source.TheVariants as source
 use Rattle.pl_events.specs.declared.operation.Subject.TheVariants as subject
 use Rattle.pl_events.specs.declared.reply.Reply.{Reply}
 use Rattle.pl_events.specs.declared.reply.Reply.TheVariants.{Configured}
-use Rattle.pl_model.specs.Run.{Fixed, Spelling}
+use Rattle.pl_model.specs.declared.errand.Errand.{Errand}
+use Rattle.pl_model.specs.declared.fixed.Fixed.{Fixed}
+use Rattle.pl_model.specs.declared.work.Work.TheVariants.{Send as to_send}
 use Rattle.pl_model.specs.Asked.{call_of}
-use Rattle.pl_model.specs.Tickets.{Errand, begun_of, errand_at, first_on, has_configured, is_configured, is_configured_reply, is_source, lane_count, lane_source, lanes_from, same_op, says_configured, source_begun, was_begun}
-use Rattle.pl_model.specs.Due.{is_checked_lane, is_next_lane, is_ready_on, is_wanted_op, passes_limit, to_send, wants_lane}
+use Rattle.pl_model.specs.Tickets.{begun_of, errand_at, first_on, has_configured, is_configured, is_configured_reply, is_source, lane_count, lane_source, lanes_from, same_op, says_configured, source_begun, was_begun}
+use Rattle.pl_model.specs.Due.{is_checked_lane, is_next_lane, is_ready_on, is_wanted_op, passes_limit, wants_lane}
 use Rattle.pl_model.specs.History.{known_of}
 use Rattle.pl_model.specs.Known.{Known, has_problem}
-use Rattle.pl_model.specs.Legal.{IsLegal, IsReplyTo, MayHappen}
+use Rattle.pl_model.specs.Legal.{IsOrderly, MayHappen}
 use Rattle.pl_model_laws.specs.Laws.{is_configure}
-use Rattle.pl_model_laws.specs.Quiet.{RepliesFit, tells_success, tells_trouble}
+use Rattle.pl_events.specs.Replies.{is_formed_reply, is_reply_to_call, reply_fits, tells_success, tells_trouble}
 use Rattle.pl_model_laws.proofs.Among.{IsAmong, any_among, any_found}
 use Rattle.pl_model_laws.proofs.Dependents.{number_within}
 use Rattle.pl_model_laws.proofs.Growing.{equal_numbers, or_true, same_number}
@@ -100,6 +104,16 @@ any_filter {X = X} p test (x ∷ xs) h = by (p x) (test x) refl (any_filter p te
 pub either_true : (a b : Bool) → (a || b) ≡ true → (a ≡ true) ⊎ (b ≡ true)
 either_true true b h = inl refl
 either_true false b h = inr h
+
+-- a reply that fits a call and tells of no trouble tells that it was carried out
+pub fit-success : (asked : Call) (said : Reply) → reply_fits asked said ≡ true → tells_trouble asked said ≡ false
+    → tells_success asked said ≡ true
+fit-success asked said fits none =
+    by (tells_success asked said) (tells_trouble asked said) (and_left (is_reply_to_call asked said) (is_formed_reply said) fits) none
+  where
+    by : (a b : Bool) → (a || b) ≡ true → b ≡ false → a ≡ true
+    by true b h none = refl
+    by false b h none = absurd (let e : true ≡ false = sym h ∙ none in cc)
 
 -- ---- lanes
 
@@ -301,13 +315,13 @@ lanes-each history wanted =
     (λ lane h. source_is (lane_source history lane) wanted h) (lanes_from history wanted)
     (each-passes (λ lane. is_source (lane_source history lane) wanted) (range_with_len 0 (lane_count history)))
 
--- ---- legal histories
+-- ---- orderly histories
 
-module _ (run : Fixed) (spelling : Spelling) where
+module _ (run : Fixed) where
   abbrev IsSourced : List Event → Errand → Type 0
   IsSourced history errand = (wanted : Source) → source_begun errand.op ≡ Some wanted → lane_source history errand.lane ≡ Some wanted
 
-  sourced_next : (seat : ℕ) (past : List Event) (what : What) → MayHappen spelling (known_of run past) seat what
+  sourced_next : (seat : ℕ) (past : List Event) (what : What) → MayHappen (known_of run past) seat what
       → Each (IsSourced past) (begun_of past)
       → Each (IsSourced (record { seat = seat; what = what } ∷ past)) (begun_of (record { seat = seat; what = what } ∷ past))
   sourced_next seat past (Begun ticket lane about) may before = (new, old)
@@ -334,16 +348,16 @@ module _ (run : Fixed) (spelling : Spelling) where
   sourced_next seat past _ may before = before
 
   -- a lane has the source of each of its operations that makes one for a provider
-  sourced : (history : List Event) → IsLegal run spelling history → Each (IsSourced history) (begun_of history)
-  sourced [] legal = tt
-  sourced (event ∷ past) legal = sourced_next event.seat past event.what legal.1 (sourced past legal.0)
+  sourced : (history : List Event) → IsOrderly run history → Each (IsSourced history) (begun_of history)
+  sourced [] orderly = tt
+  sourced (event ∷ past) orderly = sourced_next event.seat past event.what orderly.1 (sourced past orderly.0)
 
   -- the lane on which an operation for a provider was begun is one of that provider
-  pub lane-sourced : (history : List Event) (lane : ℕ) (about : Op) (wanted : Source) → IsLegal run spelling history
+  pub lane-sourced : (history : List Event) (lane : ℕ) (about : Op) (wanted : Source) → IsOrderly run history
       → was_begun_on history lane about ≡ true → source_begun about ≡ Some wanted → lane_source history lane ≡ Some wanted
-  lane-sourced history lane about wanted legal begun is =
+  lane-sourced history lane about wanted orderly begun is =
       let found = each_any (IsSourced history) (λ errand. (errand.lane == lane) && same_op errand.op about) (begun_of history)
-      (sourced history legal) begun in
+      (sourced history orderly) begun in
       let at : found.0.lane ≡ lane = equal_numbers found.0.lane lane (and_left _ (same_op found.0.op about) found.2) in
       let same : found.0.op ≡ about = equal_ops found.0.op about (and_right (found.0.lane == lane) _ found.2) in
       subst (λ (n : ℕ). lane_source history n ≡ Some wanted) at
@@ -352,9 +366,9 @@ module _ (run : Fixed) (spelling : Spelling) where
   -- ---- configurations
 
   -- an operation is begun on one lane, a configuration aside
-  pub one-lane : (history : List Event) (lane other : ℕ) (about : Op) → IsLegal run spelling history → is_configure about ≡ false
+  pub one-lane : (history : List Event) (lane other : ℕ) (about : Op) → IsOrderly run history → is_configure about ≡ false
       → was_begun_on history lane about ≡ true → was_begun_on history other about ≡ true → lane ≡ other
-  one-lane history lane other about legal once first second = by (lane == other) refl
+  one-lane history lane other about orderly once first second = by (lane == other) refl
     where
       apart : (lane == other) ≡ false → (errand : Errand) → ((errand.lane == lane) && same_op errand.op about) ≡ true
           → ((errand.lane == other) && same_op errand.op about) ≡ false
@@ -367,7 +381,7 @@ module _ (run : Fixed) (spelling : Spelling) where
       by true is = equal_numbers lane other is
       by false is =
           let few : length (filter (λ errand. same_op errand.op about) (begun_of history)) ≤ 1 =
-          begun_at_most_once run spelling about once history legal in
+          begun_at_most_once run about once history orderly in
           let many : 2 ≤ length (filter (λ errand. same_op errand.op about) (begun_of history)) =
           two_pass (λ errand. same_op errand.op about)
           (λ errand. (errand.lane == lane) && same_op errand.op about) (λ errand. (errand.lane == other) && same_op errand.op about)
@@ -375,71 +389,70 @@ module _ (run : Fixed) (spelling : Spelling) where
           (apart is) (begun_of history) first second in
           absurd (omega arith)
 
-  module _ (fit : RepliesFit spelling) where
-    -- an event that tells of a configured lane answers the errand of a configuration
-    abbrev TellsConfigured : List Event → ℕ → Type 0
-    TellsConfigured history ticket = (errand : Errand) × (errand_at history ticket ≡ Some errand) × (is_configure errand.op ≡ true)
+  -- an event that tells of a configured lane answers the errand of a configuration
+  abbrev TellsConfigured : List Event → ℕ → Type 0
+  TellsConfigured history ticket = (errand : Errand) × (errand_at history ticket ≡ Some errand) × (is_configure errand.op ≡ true)
 
-    configured_now : (seat : ℕ) (past : List Event) (what : What) → MayHappen spelling (known_of run past) seat what
-        → (ticket : ℕ) → says_configured ticket what ≡ true → TellsConfigured past ticket
-    configured_now seat past (Answered closed said) may ticket h = by (closed == ticket) refl h
-      where
-        fits : IsReplyTo spelling closed (option_map (λ errand. errand.op) (errand_at past closed)) said
-        fits =
-            subst (λ (events : List Event). IsReplyTo spelling closed (option_map (λ errand. errand.op) (errand_at events closed)) said)
-            (history_of run past) may.form
+  configured_now : (seat : ℕ) (past : List Event) (what : What) → MayHappen (known_of run past) seat what
+      → (ticket : ℕ) → says_configured ticket what ≡ true → TellsConfigured past ticket
+  configured_now seat past (Answered closed said) may ticket h = by (closed == ticket) refl h
+    where
+      fits : some_passes (λ errand. reply_fits (call_of errand.op) said) (errand_at past closed) ≡ true
+      fits =
+          subst (λ (events : List Event). some_passes (λ errand. reply_fits (call_of errand.op) said) (errand_at events closed) ≡ true)
+          (history_of run past) may.fits
 
-        at : (o : Option Errand) → errand_at past closed ≡ o → IsReplyTo spelling closed (option_map (λ errand. errand.op) o) Configured
-            → TellsConfigured past closed
-        at None is form = absurd form
-        at (Some errand) is form =
-            (errand, is, configures errand.op (fit closed (call_of errand.op) form.0 Configured form.2 (untroubled errand.op)))
+      at : (o : Option Errand) → errand_at past closed ≡ o → some_passes (λ errand. reply_fits (call_of errand.op) Configured) o ≡ true
+          → TellsConfigured past closed
+      at None is form = absurd (let e : false ≡ true = form in cc)
+      at (Some errand) is form =
+          (errand, is, configures errand.op (fit-success (call_of errand.op) Configured form (untroubled errand.op)))
 
-        by : (b : Bool) → (closed == ticket) ≡ b → is_configured_reply (if b then Some said else None) ≡ true
-            → TellsConfigured past ticket
-        by true same h =
-            subst (λ (n : ℕ). TellsConfigured past n) (equal_numbers closed ticket same)
-            (at (errand_at past closed) refl
-            (subst (λ (one : Reply). IsReplyTo spelling closed (option_map (λ errand. errand.op) (errand_at past closed)) one) (word_is said h) fits))
-        by false same h = absurd (let e : false ≡ true = h in cc)
-    configured_now seat past _ may ticket h = absurd (let e : false ≡ true = h in cc)
+      by : (b : Bool) → (closed == ticket) ≡ b → is_configured_reply (if b then Some said else None) ≡ true
+          → TellsConfigured past ticket
+      by true same h =
+          subst (λ (n : ℕ). TellsConfigured past n) (equal_numbers closed ticket same)
+          (at (errand_at past closed) refl
+          (subst (λ (one : Reply). some_passes (λ errand. reply_fits (call_of errand.op) one) (errand_at past closed) ≡ true) (word_is said h) fits))
+      by false same h = absurd (let e : false ≡ true = h in cc)
+  configured_now seat past _ may ticket h = absurd (let e : false ≡ true = h in cc)
 
-    configured_each : (history : List Event) → IsLegal run spelling history
-        → Each (λ event. (ticket : ℕ) → says_configured ticket event.what ≡ true → TellsConfigured history ticket) history
-    configured_each [] legal = tt
-    configured_each (event ∷ past) legal = (
-      λ ticket h. stays ticket (configured_now event.seat past event.what legal.1 ticket h),
-      each-weaker (λ (one : Event). (ticket : ℕ) → says_configured ticket one.what ≡ true → TellsConfigured past ticket)
-          (λ (one : Event). (ticket : ℕ) → says_configured ticket one.what ≡ true → TellsConfigured (event ∷ past) ticket)
-          (λ one says ticket h. stays ticket (says ticket h)) past (configured_each past legal.0),
-    )
-      where
-        stays : (ticket : ℕ) → TellsConfigured past ticket → TellsConfigured (event ∷ past) ticket
-        stays ticket h = (h.0, errand-stays run spelling event past ticket h.0 legal h.1, h.2)
+  configured_each : (history : List Event) → IsOrderly run history
+      → Each (λ event. (ticket : ℕ) → says_configured ticket event.what ≡ true → TellsConfigured history ticket) history
+  configured_each [] orderly = tt
+  configured_each (event ∷ past) orderly = (
+    λ ticket h. stays ticket (configured_now event.seat past event.what orderly.1 ticket h),
+    each-weaker (λ (one : Event). (ticket : ℕ) → says_configured ticket one.what ≡ true → TellsConfigured past ticket)
+        (λ (one : Event). (ticket : ℕ) → says_configured ticket one.what ≡ true → TellsConfigured (event ∷ past) ticket)
+        (λ one says ticket h. stays ticket (says ticket h)) past (configured_each past orderly.0),
+  )
+    where
+      stays : (ticket : ℕ) → TellsConfigured past ticket → TellsConfigured (event ∷ past) ticket
+      stays ticket h = (h.0, errand-stays run event past ticket h.0 orderly h.1, h.2)
 
-    -- a configured lane is of the provider that it was configured for
-    pub configured-for : (history : List Event) (lane : ℕ) → IsLegal run spelling history → is_configured history lane ≡ true
-        → (provider : Source) × (was_begun_on history lane (op.Configure provider) ≡ true)
-    configured-for history lane legal h =
-        let one = any_found (λ errand. errand.lane == lane && has_configured history errand) (begun_of history) h in
-        by one.0 one.1 (and_left _ (has_configured history one.0) one.2) (and_right (one.0.lane == lane) _ one.2)
-      where
-        told : (errand : Errand) → errand_at history errand.ticket ≡ Some errand → TellsConfigured history errand.ticket
-            → is_configure errand.op ≡ true
-        told errand at one = subst (λ (it : Errand). is_configure it.op ≡ true) (some_same one.0 errand (sym one.1 ∙ at)) one.2
+  -- a configured lane is of the provider that it was configured for
+  pub configured-for : (history : List Event) (lane : ℕ) → IsOrderly run history → is_configured history lane ≡ true
+      → (provider : Source) × (was_begun_on history lane (op.Configure provider) ≡ true)
+  configured-for history lane orderly h =
+      let one = any_found (λ errand. errand.lane == lane && has_configured history errand) (begun_of history) h in
+      by one.0 one.1 (and_left _ (has_configured history one.0) one.2) (and_right (one.0.lane == lane) _ one.2)
+    where
+      told : (errand : Errand) → errand_at history errand.ticket ≡ Some errand → TellsConfigured history errand.ticket
+          → is_configure errand.op ≡ true
+      told errand at one = subst (λ (it : Errand). is_configure it.op ≡ true) (some_same one.0 errand (sym one.1 ∙ at)) one.2
 
-        placed : (errand : Errand) (about : Op) → IsAmong errand (begun_of history) → errand.op ≡ about
-            → (errand.lane == lane) ≡ true → was_begun_on history lane about ≡ true
-        placed errand about there is on =
-            any_among (λ one. (one.lane == lane) && same_op one.op about) (begun_of history) errand there
-            (both (errand.lane == lane) (same_op errand.op about) on
-            (subst (λ (one : Op). same_op errand.op one ≡ true) is (same_op_self errand.op)))
+      placed : (errand : Errand) (about : Op) → IsAmong errand (begun_of history) → errand.op ≡ about
+          → (errand.lane == lane) ≡ true → was_begun_on history lane about ≡ true
+      placed errand about there is on =
+          any_among (λ one. (one.lane == lane) && same_op one.op about) (begun_of history) errand there
+          (both (errand.lane == lane) (same_op errand.op about) on
+          (subst (λ (one : Op). same_op errand.op one ≡ true) is (same_op_self errand.op)))
 
-        by : (errand : Errand) → IsAmong errand (begun_of history) → (errand.lane == lane) ≡ true → has_configured history errand ≡ true
-            → (provider : Source) × (was_begun_on history lane (op.Configure provider) ≡ true)
-        by errand there on has =
-            let said = each_any (λ event. (ticket : ℕ) → says_configured ticket event.what ≡ true → TellsConfigured history ticket)
-            (λ event. says_configured errand.ticket event.what) history (configured_each history legal) has in
-            let provider = configure_is errand.op
-            (told errand (errand-own run spelling history errand legal there) (said.1 errand.ticket said.2)) in
-            (provider.0, placed errand (op.Configure provider.0) there provider.1 on)
+      by : (errand : Errand) → IsAmong errand (begun_of history) → (errand.lane == lane) ≡ true → has_configured history errand ≡ true
+          → (provider : Source) × (was_begun_on history lane (op.Configure provider) ≡ true)
+      by errand there on has =
+          let said = each_any (λ event. (ticket : ℕ) → says_configured ticket event.what ≡ true → TellsConfigured history ticket)
+          (λ event. says_configured errand.ticket event.what) history (configured_each history orderly) has in
+          let provider = configure_is errand.op
+          (told errand (errand-own run history errand orderly there) (said.1 errand.ticket said.2)) in
+          (provider.0, placed errand (op.Configure provider.0) there provider.1 on)

@@ -14,10 +14,14 @@ use Rattle.pl_state.specs.declared.entry.Entry.{Entry}
 use Rattle.pl_state.specs.declared.goal.Goal.{Goal}
 use Rattle.pl_state.specs.declared.goal.Diffed.{Diffed}
 use Rattle.pl_events.specs.declared.event.Event.{Event}
-use Rattle.pl_model.specs.Run.{Fixed, Pairs, rows_of}
-use Rattle.pl_model.specs.Tickets.{Closed, answers_of}
+use Rattle.pl_model.specs.declared.decided.Decided.{Decided}
+use Rattle.pl_model.specs.declared.errand.Closed.{Closed}
+use Rattle.pl_model.specs.declared.fixed.Fixed.{Fixed}
+use Rattle.pl_model.specs.Run.{Pairs, rows_of}
+use Rattle.pl_model.specs.Tickets.{answers_of}
 use Rattle.pl_model.specs.Recording.{has_number, only_if, recorded_of, removed_by, removed_of}
-use Rattle.pl_model.specs.Claims.{Decided, claim_by, claim_for, claimed_row, claimer_of, first_some, is_chained, is_claimed, is_create_first, is_row, may_claim, numbered}
+use Rattle.pl_decide.specs.Limited.{is_create_first}
+use Rattle.pl_model.specs.Claims.{claim_by, claim_for, claimed_row, claimer_of, first_some, is_chained, is_claimed, is_row, may_claim, numbered}
 use Rattle.pl_model.specs.Decisions.{Turn, checked_at, decided_by, decided_next, decided_of, diff_at, number_at, turn_in, turn_of}
 use Rattle.pl_model.specs.Entries.{Turning, old_row, row_now, turned, turned_entry, turning_of, turnings}
 use Rattle.pl_model.specs.History.{known_of}

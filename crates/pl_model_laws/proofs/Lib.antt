@@ -1,63 +1,64 @@
-mod Among
-mod Asking
-mod Beginning
-mod Calm
-mod Chains
-mod Choosing
-mod Circling
-mod Claiming
-mod Configuring
-mod Counting
-mod Covered
-mod Covering
-mod Dependents
-mod Distinct
-mod Ending
-mod Falling
-mod Foreseeing
-mod Founding
-mod Freed
-mod Freeing
-mod Going
-mod Growing
-mod Importing
-mod KeptAnswers
-mod KeptDue
-mod KeptEntries
-mod LaneCounts
-mod KeptRows
-mod KeptSources
-mod KeptState
-mod Keeping
-mod Lanes
-mod Leaving
-mod Listing
-mod Naming
-mod Once
-mod Pairs
-mod Places
-mod Provided
-mod Providers
-mod Pruning
-mod Quieting
-mod Recorded
-mod Referring
-mod Removing
-mod Replying
-mod Rereading
-mod Serving
-mod Sounding
-mod Sourcing
-mod Standing
-mod Staying
-mod Subjects
-mod TakenOut
-mod TakenOver
-mod Ticketing
-mod Troubles
-mod Turning
-mod TurningProviders
-mod Unknowns
-mod Waiting
-mod Wants
-mod Working
+pub mod Along
+pub mod Among
+pub mod Asking
+pub mod Beginning
+pub mod Calm
+pub mod Chains
+pub mod Choosing
+pub mod Circling
+pub mod Claiming
+pub mod Configuring
+pub mod Counting
+pub mod Covered
+pub mod Covering
+pub mod Dependents
+pub mod Distinct
+pub mod Ending
+pub mod Falling
+pub mod Foreseeing
+pub mod Founding
+pub mod Freed
+pub mod Freeing
+pub mod Going
+pub mod Growing
+pub mod Importing
+pub mod KeptAnswers
+pub mod KeptDue
+pub mod KeptEntries
+pub mod LaneCounts
+pub mod KeptRows
+pub mod KeptSources
+pub mod KeptState
+pub mod Keeping
+pub mod Lanes
+pub mod Leaving
+pub mod Listing
+pub mod Naming
+pub mod Once
+pub mod Pairs
+pub mod Places
+pub mod Provided
+pub mod Providers
+pub mod Pruning
+pub mod Quieting
+pub mod Recorded
+pub mod Referring
+pub mod Removing
+pub mod Replying
+pub mod Rereading
+pub mod Serving
+pub mod Sounding
+pub mod Sourcing
+pub mod Standing
+pub mod Staying
+pub mod Subjects
+pub mod TakenOut
+pub mod TakenOver
+pub mod Ticketing
+pub mod Troubles
+pub mod Turning
+pub mod TurningProviders
+pub mod Unknowns
+pub mod Waiting
+pub mod Wants
+pub mod Working

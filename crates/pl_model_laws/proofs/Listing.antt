@@ -12,14 +12,17 @@ use Rattle.pl_events.specs.declared.operation.Op.TheVariants as op
 use Rattle.pl_events.specs.declared.operation.Source.{Source}
 use Rattle.pl_events.specs.declared.operation.Source.TheVariants as source
 use Rattle.pl_events.specs.declared.operation.Subject.TheVariants as subject
-use Rattle.pl_model.specs.Run.{Fixed, Spelling, imports_of, is_refresh, rows_of}
-use Rattle.pl_model.specs.Claims.{Decided, is_row, numbered}
+use Rattle.pl_model.specs.declared.decided.Decided.{Decided}
+use Rattle.pl_model.specs.declared.fixed.Fixed.{Fixed}
+use Rattle.pl_model.specs.declared.heard.Heard.{Heard}
+use Rattle.pl_model.specs.Run.{imports_of, is_refresh, rows_of}
+use Rattle.pl_model.specs.Claims.{is_row, numbered}
 use Rattle.pl_model.specs.Decisions.{Turn, number_at}
 use Rattle.pl_model.specs.Due.{asks_check, asks_config, asks_diff, at_turn, checks_of, deletes_of, for_decided, goal_numbers, imports_read, is_asked, is_checked_lane, is_imported, is_invoke, is_ready_on, is_removable, operations_of, pending_numbers, reads_of, request_numbers, sends_goal, sends_of, wants_lane}
 use Rattle.pl_model.specs.History.{known_of}
-use Rattle.pl_model.specs.Known.{Asked, Known, asked_at, next_turn, number_of}
+use Rattle.pl_model.specs.Known.{Known, asked_at, next_turn, number_of}
 use Rattle.pl_model.specs.Left.{all_operations, sources_of}
-use Rattle.pl_model.specs.Legal.{IsLegal}
+use Rattle.pl_model.specs.Legal.{IsOrderly}
 use Rattle.pl_model.specs.Problems.{creates_urn, is_to_read, pending_create}
 use Rattle.pl_model.specs.Rows.{is_sent, row_at, row_numbers}
 use Rattle.pl_model.specs.Tickets.{lane_count, same_op, same_source}
@@ -79,7 +82,7 @@ module _ (known : Known) where
           omega arith
 
   -- a told request is one of those in order
-  pub request_listed : (p : ℕ → Bool) (n : ℕ) (asked : Asked) → asked_at known n ≡ Some asked → p n ≡ true
+  pub request_listed : (p : ℕ → Bool) (n : ℕ) (asked : Heard) → asked_at known n ≡ Some asked → p n ≡ true
       → list_any p (request_numbers known) ≡ true
   request_listed p n asked h passes =
       let there = find_among (λ asked. number_of asked.request == n) known.asked asked h in
@@ -103,7 +106,7 @@ module _ (known : Known) where
       about : Op
       about = op.Read (subject.Pending at)
 
-  invoke_listed : (n : ℕ) (asked : Asked) → asked_at known n ≡ Some asked
+  invoke_listed : (n : ℕ) (asked : Heard) → asked_at known n ≡ Some asked
       → list_any (same_op (op.Invoke n)) (operations_of known) ≡ true
   invoke_listed n asked h =
       any_back (same_op (op.Invoke n)) (deletes_of known) _ (any_back (same_op (op.Invoke n)) (checks_of known) _
@@ -175,14 +178,14 @@ module _ (known : Known) where
       (omega arith) (omega arith) (same_number row))
 
 -- a provider of which a lane is to be configured is one of all
-pub provider-listed : (run : Fixed) (spelling : Spelling) (past : List Event) (provider : Source) (lane : ℕ) → IsLegal run spelling past
+pub provider-listed : (run : Fixed) (past : List Event) (provider : Source) (lane : ℕ) → IsOrderly run past
     → is_ready_on (known_of run past) (op.Configure provider) lane ≡ true
     → list_any (same_source provider) (sources_of (known_of run past)) ≡ true
-provider-listed run spelling past provider lane legal ready = by provider (configure_cases (known_of run past) provider lane ready)
+provider-listed run past provider lane orderly ready = by provider (configure_cases (known_of run past) provider lane ready)
   where
     there : (own : Source) → IsSourceThere (known_of run past) own → list_any (same_source own) (sources_of (known_of run past)) ≡ true
     there (source.Goal number) recorded =
-        let held = recorded-held run spelling past number legal recorded in
+        let held = recorded-held run past number orderly recorded in
         goal_listed (known_of run past) number (numbered_below (known_of run past).goals number held.0 held.2.stands)
     there (source.Row row) low = row_listed (known_of run past) row low
 
@@ -192,6 +195,6 @@ provider-listed run spelling past provider lane legal ready = by provider (confi
         → list_any (same_source own) (sources_of (known_of run past)) ≡ true
     by own (inr wants) = there own (wants-there (known_of run past) own wants.0)
     by (source.Goal number) (inl checked) =
-        let own = check-provider run spelling number past legal (checked_lane_begun run past number lane checked) in
+        let own = check-provider run number past orderly (checked_lane_begun run past number lane checked) in
         goal_listed (known_of run past) number (numbered_below (known_of run past).goals number own.0 own.1)
     by (source.Row row) (inl checked) = absurd (let e : false ≡ true = checked in cc)

@@ -17,11 +17,13 @@ use Rattle.pl_events.specs.declared.event.What.{What}
 use Rattle.pl_events.specs.declared.event.What.TheVariants.{Told}
 use Rattle.pl_decide.specs.declared.problem.Problem.{Problem}
 use Rattle.pl_decide.specs.declared.problem.Problem.TheVariants.{BadOption, DuplicateUrn, UnknownReference}
-use Rattle.pl_model.specs.Run.{Fixed, HasNames, Spelling}
+use Rattle.pl_model.specs.declared.fixed.Fixed.{Fixed}
+use Rattle.pl_model.specs.declared.heard.Fate.TheVariants.{Halted as halted}
+use Rattle.pl_model.specs.Run.{HasNames}
 use Rattle.pl_model.specs.Claims.{goal_number}
 use Rattle.pl_model.specs.History.{goals_after, known_of}
-use Rattle.pl_model.specs.Known.{halted, Known, has_problem}
-use Rattle.pl_model.specs.Legal.{IsLegal, MayHappen}
+use Rattle.pl_model.specs.Known.{Known, has_problem}
+use Rattle.pl_model.specs.Legal.{IsOrderly, MayHappen}
 use Rattle.pl_state.specs.References.{further_urns, option_list}
 use Rattle.pl_model.specs.Requests.{default_goal, default_urn, fate_by, fate_of, first_in, goal_refusal, goals_by, goals_made, has_goal, has_id, invoke_refusal, invoked_version, is_bad_default, is_met, is_met_reference, named_provider, refusal_of, refused_if, result_refusal, token_package, unknown_references, uses_default, with_default, with_goal, with_invoked, with_provider, with_result}
 use Rattle.pl_model_laws.proofs.Distinct.{IsAllowed-from_refusal, IsFree, default_is_provider, names-there, none_left, not_refused, or_none, told-names}
@@ -287,19 +289,19 @@ module _ (known : Known) (in_stack : IsScope known.run.stack) (in_project : IsSc
       by false None is = all_made request is
       by false (Some problem) is = all
 
-all_after : (spelling : Spelling) (known : Known) (seat : ℕ) (what : What) → HasNames known.run → MayHappen spelling known seat what
+all_after : (known : Known) (seat : ℕ) (what : What) → HasNames known.run → MayHappen known seat what
     → AllBelow known.goals → AllBelow (goals_after known what)
-all_after spelling known seat (Told request) names may all =
-    let scopes = told-names spelling known seat request names may in
+all_after known seat (Told request) names may all =
+    let scopes = told-names known seat request names may in
     all_told known scopes.0 scopes.1 all request
-all_after spelling known seat _ names may all = all
+all_after known seat _ names may all = all
 
 -- ---- the goals of a history
 
--- the goals of every legal history refer to goals behind them
-pub all-below : (run : Fixed) (spelling : Spelling) (history : List Event) → HasNames run → IsLegal run spelling history
+-- the goals of every orderly history refer to goals behind them
+pub all-below : (run : Fixed) (history : List Event) → HasNames run → IsOrderly run history
     → AllBelow (known_of run history).goals
 unfolding known_of
-all-below run spelling [] names legal = tt
-all-below run spelling (event ∷ past) names legal =
-    all_after spelling (known_of run past) event.seat event.what (names-there run past names) legal.1 (all-below run spelling past names legal.0)
+all-below run [] names orderly = tt
+all-below run (event ∷ past) names orderly =
+    all_after (known_of run past) event.seat event.what (names-there run past names) orderly.1 (all-below run past names orderly.0)

@@ -1,4 +1,4 @@
--- What a legal history does once.
+-- What an orderly history does once.
 use Rattle.std.proofs.Common.{◌≡◌, ℕ, ◌==◌, ◌≤◌, Bool, true, false, not, ◌&&◌, ◌||◌, if◌then◌else◌, List, [], ◌∷◌, filter, length, refl, ◌∙◌, ap, subst, arith}
 use Rattle.std.specs.List.{list_any}
 use Rattle.pl_events.specs.declared.event.Event.{Event}
@@ -10,12 +10,14 @@ use Rattle.pl_events.specs.declared.operation.Source.{Source}
 use Rattle.pl_events.specs.declared.operation.Source.TheVariants as source
 use Rattle.pl_events.specs.declared.operation.Subject.{Subject}
 use Rattle.pl_events.specs.declared.operation.Subject.TheVariants as subject
-use Rattle.pl_model.specs.Run.{Fixed, Spelling}
-use Rattle.pl_model.specs.Due.{is_due_on, is_lane_of, is_next_lane, is_ready_on, is_wanted_op, is_asked, passes_limit, to_send}
+use Rattle.pl_model.specs.declared.errand.Errand.{Errand}
+use Rattle.pl_model.specs.declared.fixed.Fixed.{Fixed}
+use Rattle.pl_model.specs.declared.work.Work.TheVariants.{Send as to_send}
+use Rattle.pl_model.specs.Due.{is_due_on, is_lane_of, is_next_lane, is_ready_on, is_wanted_op, is_asked, passes_limit}
 use Rattle.pl_model.specs.History.{known_of}
 use Rattle.pl_model.specs.Known.{Known, has_problem}
-use Rattle.pl_model.specs.Legal.{IsLegal, MayHappen, is_seats}
-use Rattle.pl_model.specs.Tickets.{Errand, begun_of, closes, is_closed, is_open, same_op, same_source, same_subject, was_begun}
+use Rattle.pl_model.specs.Legal.{IsOrderly, MayHappen, is_seats}
+use Rattle.pl_model.specs.Tickets.{begun_of, closes, is_closed, is_open, same_op, same_source, same_subject, was_begun}
 use Rattle.pl_model_laws.specs.Laws.{is_configure}
 use Rattle.pl_model_laws.proofs.Growing.{equal_numbers}
 
@@ -85,7 +87,7 @@ unfolding known_of
 history_of run [] = refl
 history_of run (event ∷ past) = ap (λ (events : List Event). event ∷ events) (history_of run past)
 
-module _ (run : Fixed) (spelling : Spelling) where
+module _ (run : Fixed) where
   abbrev closings : ℕ → List Event → ℕ
   closings ticket history = length (filter (λ event. closes ticket event.what) history)
 
@@ -104,17 +106,17 @@ module _ (run : Fixed) (spelling : Spelling) where
           (subst (λ (number : ℕ). is_closed past number ≡ false) (equal_numbers closed ticket is) (unclosed seat closed past mine))
       by false is = as_before (λ event. closes ticket event.what) (record { seat = seat; what = what }) past (says ∙ is) before
 
-  closed_step : (seat ticket : ℕ) (past : List Event) (what : What) → MayHappen spelling (known_of run past) seat what
+  closed_step : (seat ticket : ℕ) (past : List Event) (what : What) → MayHappen (known_of run past) seat what
       → closings ticket past ≤ 1 → closings ticket (record { seat = seat; what = what } ∷ past) ≤ 1
   closed_step seat ticket past (Answered closed reply) may before =
       closing seat closed ticket past (Answered closed reply) refl may.closes before
   closed_step seat ticket past (Lost closed why) may before = closing seat closed ticket past (Lost closed why) refl may before
   closed_step seat ticket past _ may before = before
 
-  pub closed_at_most_once : (history : List Event) (ticket : ℕ) → IsLegal run spelling history → closings ticket history ≤ 1
-  closed_at_most_once [] ticket legal = omega arith
-  closed_at_most_once (event ∷ past) ticket legal =
-      closed_step event.seat ticket past event.what legal.1 (closed_at_most_once past ticket legal.0)
+  pub closed_at_most_once : (history : List Event) (ticket : ℕ) → IsOrderly run history → closings ticket history ≤ 1
+  closed_at_most_once [] ticket orderly = omega arith
+  closed_at_most_once (event ∷ past) ticket orderly =
+      closed_step event.seat ticket past event.what orderly.1 (closed_at_most_once past ticket orderly.0)
 
 -- ---- operations
 
@@ -168,7 +170,7 @@ due_unbegun : (known : Known) (about : Op) (lane : ℕ) → is_configure about �
 due_unbegun known about lane other h =
     ready_unbegun known about lane other (and_left (is_ready_on known about lane) (not (passes_limit known (to_send about))) h)
 
-module _ (run : Fixed) (spelling : Spelling) (about : Op) (other : is_configure about ≡ false) where
+module _ (run : Fixed) (about : Op) (other : is_configure about ≡ false) where
   abbrev begins_it : Errand → Bool
   begins_it errand = same_op errand.op about
 
@@ -191,11 +193,11 @@ module _ (run : Fixed) (spelling : Spelling) (about : Op) (other : is_configure 
           one_more begins_it (record { ticket = ticket; seat = seat; lane = lane; op = one }) (begun_of past) never
       by false is = as_before begins_it (record { ticket = ticket; seat = seat; lane = lane; op = one }) (begun_of past) is before
 
-  begun_step : (seat : ℕ) (past : List Event) (what : What) → MayHappen spelling (known_of run past) seat what
+  begun_step : (seat : ℕ) (past : List Event) (what : What) → MayHappen (known_of run past) seat what
       → times past ≤ 1 → times (record { seat = seat; what = what } ∷ past) ≤ 1
   begun_step seat past (Begun ticket lane one) may before = began seat ticket lane one past may.due before
   begun_step seat past _ may before = before
 
-  pub begun_at_most_once : (history : List Event) → IsLegal run spelling history → times history ≤ 1
-  begun_at_most_once [] legal = omega arith
-  begun_at_most_once (event ∷ past) legal = begun_step event.seat past event.what legal.1 (begun_at_most_once past legal.0)
+  pub begun_at_most_once : (history : List Event) → IsOrderly run history → times history ≤ 1
+  begun_at_most_once [] orderly = omega arith
+  begun_at_most_once (event ∷ past) orderly = begun_step event.seat past event.what orderly.1 (begun_at_most_once past orderly.0)

@@ -6,12 +6,13 @@ use Rattle.pl_state.specs.Kinds.{is_provided}
 use Rattle.pl_state.specs.References.{further_urns}
 use Rattle.pl_state.specs.declared.goal.Goal.{Goal}
 use Rattle.pl_events.specs.declared.event.Event.{Event}
-use Rattle.pl_model.specs.Run.{Fixed, HasNames, Spelling}
+use Rattle.pl_model.specs.declared.fixed.Fixed.{Fixed}
+use Rattle.pl_model.specs.Run.{HasNames}
 use Rattle.pl_model.specs.Claims.{numbered}
 use Rattle.pl_model.specs.Due.{is_recorded_urn, none_or, references_recorded}
 use Rattle.pl_model.specs.History.{known_of}
 use Rattle.pl_model.specs.Known.{Known, goal_at, is_recorded}
-use Rattle.pl_model.specs.Legal.{IsLegal}
+use Rattle.pl_model.specs.Legal.{IsOrderly}
 use Rattle.pl_model_laws.proofs.Distinct.{IsApart, IsFree, apart_of, some_equal}
 use Rattle.pl_model_laws.proofs.Growing.{equal_numbers}
 use Rattle.pl_model_laws.proofs.Naming.{AllBelow, IsBelow, RefersBelow, all-below, below_more}
@@ -49,16 +50,16 @@ refers_at (newest ∷ earlier) apart all n goal h = by (length earlier == n) ref
     by false is h rest = refers_more newest earlier n goal apart.1 (rest h)
 
 -- what a goal refers to are goals below it
-pub references-below : (run : Fixed) (spelling : Spelling) (history : List Event) (n : ℕ) (goal : Goal) → HasNames run → IsLegal run spelling history
+pub references-below : (run : Fixed) (history : List Event) (n : ℕ) (goal : Goal) → HasNames run → IsOrderly run history
     → goal_at (known_of run history) n ≡ Some goal → RefersBelow (known_of run history).goals n goal
-references-below run spelling history n goal names legal =
-    refers_at (known_of run history).goals (apart_of run spelling history names legal) (all-below run spelling history names legal) n goal
+references-below run history n goal names orderly =
+    refers_at (known_of run history).goals (apart_of run history names orderly) (all-below run history names orderly) n goal
 
 -- a goal that is provided for has its provider below it
-pub provided-named : (run : Fixed) (spelling : Spelling) (history : List Event) (n : ℕ) (goal : Goal) → HasNames run → IsLegal run spelling history
+pub provided-named : (run : Fixed) (history : List Event) (n : ℕ) (goal : Goal) → HasNames run → IsOrderly run history
     → goal_at (known_of run history) n ≡ Some goal → is_provided goal ≡ true → (m : ℕ) × (goal.provider ≡ Some m) × (m < n)
-provided-named run spelling history n goal names legal stands provided =
-    let refers = references-below run spelling history n goal names legal stands in
+provided-named run history n goal names orderly stands provided =
+    let refers = references-below run history n goal names orderly stands in
     let named = some_there goal.provider (refers.provided provided) in
     (named.0, named.1, refers.provider named.0 named.1)
 
@@ -102,8 +103,8 @@ module _ (known : Known) (n : ℕ) (goal : Goal) (refers : RefersBelow known.goa
       three false b c first second third = absurd (let e : false ≡ true = first in cc)
 
 -- where the goals below a goal are recorded, those of its references are
-pub references-ready : (run : Fixed) (spelling : Spelling) (history : List Event) (n : ℕ) (goal : Goal) → HasNames run → IsLegal run spelling history
+pub references-ready : (run : Fixed) (history : List Event) (n : ℕ) (goal : Goal) → HasNames run → IsOrderly run history
     → ((m : ℕ) → m < n → is_recorded (known_of run history) m ≡ true) → goal_at (known_of run history) n ≡ Some goal
     → references_recorded (known_of run history) goal ≡ true
-references-ready run spelling history n goal names legal recorded stands =
-    all_references (known_of run history) n goal (references-below run spelling history n goal names legal stands) recorded
+references-ready run history n goal names orderly recorded stands =
+    all_references (known_of run history) n goal (references-below run history n goal names orderly stands) recorded

@@ -14,11 +14,13 @@ use Rattle.pl_events.specs.declared.event.Request.TheVariants.{Register, Outputs
 use Rattle.pl_events.specs.declared.event.What.{What}
 use Rattle.pl_events.specs.declared.event.What.TheVariants.{Told}
 use Rattle.pl_decide.specs.declared.problem.Problem.{Problem}
-use Rattle.pl_model.specs.Run.{Fixed, HasNames, Spelling}
+use Rattle.pl_model.specs.declared.fixed.Fixed.{Fixed}
+use Rattle.pl_model.specs.declared.heard.Fate.TheVariants.{Halted as halted}
+use Rattle.pl_model.specs.Run.{HasNames}
 use Rattle.pl_model.specs.Claims.{goal_number, numbered}
 use Rattle.pl_model.specs.History.{goals_after, known_of}
-use Rattle.pl_model.specs.Known.{halted, Known, has_problem}
-use Rattle.pl_model.specs.Legal.{IsLegal, MayHappen}
+use Rattle.pl_model.specs.Known.{Known, has_problem}
+use Rattle.pl_model.specs.Legal.{IsOrderly, MayHappen}
 use Rattle.pl_model.specs.Requests.{default_goal, default_urn, fate_by, fate_of, goals_by, goals_made, has_goal, invoked_version, is_bad_default, named_provider, refusal_of, result_refusal, uses_default, with_default, with_goal, with_invoked, with_provider, with_result}
 use Rattle.pl_model_laws.proofs.Distinct.{IsAllowed, IsAllowed-from_refusal, default_is_provider, names-there, none_left, some_equal, told-names}
 use Rattle.pl_model_laws.proofs.Growing.{Grown, grown_more, grown_not, numbered_grown}
@@ -141,19 +143,19 @@ module _ (known : Known) (in_stack : IsScope known.run.stack) (in_project : IsSc
       by false None is = all_made request is
       by false (Some problem) is = all
 
-all_after : (spelling : Spelling) (known : Known) (seat : ℕ) (what : What) → HasNames known.run → MayHappen spelling known seat what
+all_after : (known : Known) (seat : ℕ) (what : What) → HasNames known.run → MayHappen known seat what
     → AllProvided known.goals → AllProvided (goals_after known what)
-all_after spelling known seat (Told request) names may all =
-    let scopes = told-names spelling known seat request names may in
+all_after known seat (Told request) names may all =
+    let scopes = told-names known seat request names may in
     all_told known scopes.0 scopes.1 all request
-all_after spelling known seat _ names may all = all
+all_after known seat _ names may all = all
 
-all_of : (run : Fixed) (spelling : Spelling) (history : List Event) → HasNames run → IsLegal run spelling history
+all_of : (run : Fixed) (history : List Event) → HasNames run → IsOrderly run history
     → AllProvided (known_of run history).goals
 unfolding known_of
-all_of run spelling [] names legal = tt
-all_of run spelling (event ∷ past) names legal =
-    all_after spelling (known_of run past) event.seat event.what (names-there run past names) legal.1 (all_of run spelling past names legal.0)
+all_of run [] names orderly = tt
+all_of run (event ∷ past) names orderly =
+    all_after (known_of run past) event.seat event.what (names-there run past names) orderly.1 (all_of run past names orderly.0)
 
 each_numbered : (P : Goal → Type 0) (goals : List Goal) (number : ℕ) (goal : Goal) → Each P goals → numbered goals number ≡ Some goal → P goal
 each_numbered P [] number goal all h = absurd (let e : None ≡ Some goal = h in cc)
@@ -164,9 +166,9 @@ each_numbered P (newest ∷ earlier) number goal all h = by (length earlier == n
     by false h rest = rest h
 
 -- the provider of each goal is a provider
-pub providers-provide : (run : Fixed) (spelling : Spelling) (history : List Event) → HasNames run → IsLegal run spelling history
+pub providers-provide : (run : Fixed) (history : List Event) → HasNames run → IsOrderly run history
     → ProvidersProvide (known_of run history)
-providers-provide run spelling history in_names legal = λ number own goal other stands names there.
+providers-provide run history in_names orderly = λ number own goal other stands names there.
     let found = each_numbered (IsProvided (known_of run history).goals) (known_of run history).goals number goal
-    (all_of run spelling history in_names legal) stands own names in
+    (all_of run history in_names orderly) stands own names in
     subst (λ (one : Goal). is_provider_goal one ≡ true) (some_equal found.0 other (sym found.1 ∙ there)) found.2

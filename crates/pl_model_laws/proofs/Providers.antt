@@ -14,16 +14,20 @@ use Rattle.pl_events.specs.declared.operation.Op.{Op}
 use Rattle.pl_events.specs.declared.operation.Op.TheVariants as op
 use Rattle.pl_events.specs.declared.operation.Subject.TheVariants as subject
 use Rattle.pl_events.specs.declared.reply.Reply.{Reply}
-use Rattle.pl_model.specs.Run.{Fixed, Spelling, is_preview}
-use Rattle.pl_model.specs.Tickets.{op_at, Errand, begun_of, errand_by, same_op, was_begun}
+use Rattle.pl_model.specs.declared.decided.Decided.{Decided}
+use Rattle.pl_model.specs.declared.errand.Errand.{Errand}
+use Rattle.pl_model.specs.declared.fixed.Fixed.{Fixed}
+use Rattle.pl_model.specs.declared.work.Work.TheVariants.{Keep as to_keep, Send as to_send}
+use Rattle.pl_model.specs.Run.{is_preview}
+use Rattle.pl_model.specs.Tickets.{op_at, begun_of, errand_by, same_op, was_begun}
 use Rattle.pl_model.specs.Recording.{has_number, is_thing, goal_of_op, only_if, recorded_by, recorded_by_reply, recorded_of, fresh_by, fresh_of}
-use Rattle.pl_model.specs.Claims.{Decided, claimed_row, id_of_row, is_row, kept_provider_id, usable_id}
-use Rattle.pl_model.specs.Decisions.{is_refused}
-use Rattle.pl_model.specs.Due.{for_decided, has_unknown_provider, is_asked, is_due_on, is_keep_ready, is_lane_of, is_placed, is_reading, is_ready, is_ready_on, is_wanted_op, keeps_goal, op_of_decision, op_of_goal, passes_limit, provider_stands, references_recorded, sends_goal, to_keep, to_send, urn_is_free, way_is_free}
+use Rattle.pl_model.specs.Claims.{claimed_row, id_of_row, is_row, kept_provider_id, usable_id}
+use Rattle.pl_decide.specs.Limited.{is_refused}
+use Rattle.pl_model.specs.Due.{for_decided, has_unknown_provider, is_asked, is_due_on, is_keep_ready, is_lane_of, is_placed, is_reading, is_ready, is_ready_on, is_wanted_op, keeps_goal, op_of_decision, op_of_goal, passes_limit, provider_stands, references_recorded, sends_goal, urn_is_free, way_is_free}
 use Rattle.pl_model.specs.Entries.{Result, recording_of, result_by, result_of_keep}
 use Rattle.pl_model.specs.History.{known_of}
 use Rattle.pl_model.specs.Known.{Known, decided_goal, goal_at, is_recorded, claim_row, has_problem, provider_id}
-use Rattle.pl_model.specs.Legal.{IsLegal, MayBeKept, MayHappen, needs_fresh}
+use Rattle.pl_model.specs.Legal.{IsOrderly, MayBeKept, MayHappen, needs_fresh}
 use Rattle.pl_model_laws.proofs.Growing.{equal_numbers, decisions-stay, goals-stay, run_of}
 use Rattle.pl_model_laws.proofs.Once.{and_left, and_right, history_of, not_true}
 use Rattle.pl_model_laws.proofs.Standing.{IsOnly, KeepsClaim, claim-of-decided, closed_with, given_in, id_there, keep_has_claim, keep_id, only_there, or_none, passing, unrecorded-gives}
@@ -149,7 +153,7 @@ fresh_unrecorded (event ∷ past) number h = by event.what (fresh_unrecorded pas
     by (Answered ticket said) rest h = ap (λ (o : Option ℕ). option_or o None) (rest (behind (recorded_by past (Answered ticket said)) h))
     by _ rest h = ap (λ (o : Option ℕ). option_or o None) (rest h)
 
-module _ (run : Fixed) (spelling : Spelling) (known : Known) (number : ℕ) (goal : Goal) (one : Decided) (same_run : known.run ≡ run) (provider : is_provider_goal goal ≡ true) where
+module _ (run : Fixed) (known : Known) (number : ℕ) (goal : Goal) (one : Decided) (same_run : known.run ≡ run) (provider : is_provider_goal goal ≡ true) where
   -- the row that the goal claims
   abbrev claimed : Option Entry
   claimed = claimed_row known.run one.claim
@@ -175,7 +179,7 @@ module _ (run : Fixed) (spelling : Spelling) (known : Known) (number : ℕ) (goa
   decided_before event past only it h = only it (decisions-stay run event past number it h)
 
   -- one event more begins no operation for the goal
-  unsent_step : (seat : ℕ) (past : List Event) (what : What) → MayHappen spelling (known_of run past) seat what → OnlyGoal past
+  unsent_step : (seat : ℕ) (past : List Event) (what : What) → MayHappen (known_of run past) seat what → OnlyGoal past
       → list_any sent_for (begun_of past) ≡ false → list_any sent_for (cons_option (errand_by seat what) (begun_of past)) ≡ false
   unsent_step seat past (Begun ticket lane about) may only rest = by (is_row (goal_of_op about) number) refl
     where
@@ -185,10 +189,10 @@ module _ (run : Fixed) (spelling : Spelling) (known : Known) (number : ℕ) (goa
   unsent_step seat past _ may only rest = rest
 
   -- no operation was begun for a provider
-  unsent : (past : List Event) → IsLegal run spelling past → OnlyGoal past → list_any sent_for (begun_of past) ≡ false
-  unsent [] legal only = refl
-  unsent (event ∷ past) legal only =
-      unsent_step event.seat past event.what legal.1 (goal_before event past only) (unsent past legal.0 (goal_before event past only))
+  unsent : (past : List Event) → IsOrderly run past → OnlyGoal past → list_any sent_for (begun_of past) ≡ false
+  unsent [] orderly only = refl
+  unsent (event ∷ past) orderly only =
+      unsent_step event.seat past event.what orderly.1 (goal_before event past only) (unsent past orderly.0 (goal_before event past only))
 
   -- no ticket is that of an operation for the goal
   unsent_at : (past : List Event) (ticket : ℕ) → list_any sent_for (begun_of past) ≡ false → (about : Op) → op_at past ticket ≡ Some about
@@ -273,7 +277,7 @@ module _ (run : Fixed) (spelling : Spelling) (known : Known) (number : ℕ) (goa
       (h.0, ap (λ (o : Option Result). option_or o more) h.1, h.2, h.3)
 
   -- one event more leaves the goal kept with its id, or keeps it so
-  kept_step : (seat : ℕ) (past : List Event) (what : What) → MayHappen spelling (known_of run past) seat what → OnlyGoal past → OnlyDecided past
+  kept_step : (seat : ℕ) (past : List Event) (what : What) → MayHappen (known_of run past) seat what → OnlyGoal past → OnlyDecided past
       → list_any sent_for (begun_of past) ≡ false
       → (has_number (recorded_of past) number ≡ true → HasId (given past) (fresh_of past number))
       → has_number (cons_option (recorded_by past what) (recorded_of past)) number ≡ true
@@ -291,24 +295,24 @@ module _ (run : Fixed) (spelling : Spelling) (known : Known) (number : ℕ) (goa
   kept_step seat past _ may only_goal only_decided none rest h = given_before past None (rest h)
 
   -- a recorded provider was kept, with the id by which references name it
-  kept_found : (past : List Event) → IsLegal run spelling past → OnlyGoal past → OnlyDecided past → has_number (recorded_of past) number ≡ true
+  kept_found : (past : List Event) → IsOrderly run past → OnlyGoal past → OnlyDecided past → has_number (recorded_of past) number ≡ true
       → HasId (given past) (fresh_of past number)
-  kept_found [] legal only_goal only_decided h = absurd (let e : false ≡ true = h in cc)
-  kept_found (event ∷ past) legal only_goal only_decided h =
-      kept_step event.seat past event.what legal.1 (goal_before event past only_goal) (decided_before event past only_decided)
-      (unsent past legal.0 (goal_before event past only_goal))
-      (kept_found past legal.0 (goal_before event past only_goal) (decided_before event past only_decided)) h
+  kept_found [] orderly only_goal only_decided h = absurd (let e : false ≡ true = h in cc)
+  kept_found (event ∷ past) orderly only_goal only_decided h =
+      kept_step event.seat past event.what orderly.1 (goal_before event past only_goal) (decided_before event past only_decided)
+      (unsent past orderly.0 (goal_before event past only_goal))
+      (kept_found past orderly.0 (goal_before event past only_goal) (decided_before event past only_decided)) h
 
 -- the entry of a recorded provider has the id by which references name it
-pub provider-id : (run : Fixed) (spelling : Spelling) (history : List Event) (number : ℕ) (goal : Goal) (one : Decided) (result : Result)
-    → IsLegal run spelling history → is_recorded (known_of run history) number ≡ true → is_provider_goal goal ≡ true
+pub provider-id : (run : Fixed) (history : List Event) (number : ℕ) (goal : Goal) (one : Decided) (result : Result)
+    → IsOrderly run history → is_recorded (known_of run history) number ≡ true → is_provider_goal goal ≡ true
     → goal_at (known_of run history) number ≡ Some goal → decided_goal (known_of run history) number ≡ Some one
     → recording_of (known_of run history) number goal one ≡ Some result
     → (result.id ≡ provider_id (known_of run history) number) × (is_some (provider_id (known_of run history) number) ≡ true)
-provider-id run spelling history number goal one result legal recorded provider here decided found =
+provider-id run history number goal one result orderly recorded provider here decided found =
     let known : Known = known_of run history in
     let told : known.history ≡ history = history_of run history in
-    let kept = kept_found run spelling known number goal one (run_of run history) provider history legal
+    let kept = kept_found run known number goal one (run_of run history) provider history orderly
     (only_there (goal_at known number) goal here) (only_there (decided_goal known number) one decided)
     (subst (λ (events : List Event). has_number (recorded_of events) number ≡ true) told recorded) in
     let first : recording_of known number goal one ≡ Some kept.0 =

@@ -7,18 +7,19 @@ use Rattle.pl_refresh.specs.Refreshed.{Left, all_left, if_there, imported_left, 
 use Rattle.pl_refresh.specs.declared.row_now.RowNow.{RowNow}
 use Rattle.pl_refresh.specs.declared.row_now.RowNow.TheVariants as now
 use Rattle.pl_state.specs.References.{has_urn, is_provider}
-use Rattle.pl_state.specs.Sound.{IsSound}
+use Rattle.pl_sound.specs.Sound.{IsSound}
 use Rattle.pl_state.specs.declared.entry.Entry.{Entry}
 use Rattle.pl_events.specs.declared.event.Event.{Event}
 use Rattle.pl_events.specs.declared.operation.Op.TheVariants as op
 use Rattle.pl_events.specs.declared.operation.Subject.TheVariants as subject
 use Rattle.pl_events.specs.declared.reply.Reply.{Reply}
 use Rattle.pl_events.specs.declared.reply.Reply.TheVariants as reply
-use Rattle.pl_model.specs.Run.{Fixed, Spelling, is_refresh, rows_of}
+use Rattle.pl_model.specs.declared.fixed.Fixed.{Fixed}
+use Rattle.pl_model.specs.Run.{is_refresh, rows_of}
 use Rattle.pl_model.specs.Entries.{new_entries, old_entries}
 use Rattle.pl_model.specs.History.{known_of}
 use Rattle.pl_model.specs.Known.{Known}
-use Rattle.pl_model.specs.Legal.{IsLegal}
+use Rattle.pl_model.specs.Legal.{IsOrderly}
 use Rattle.pl_model.specs.State.{imported_entries, refreshed_entries, row_read, rows_read, state_of}
 use Rattle.pl_model.specs.Tickets.{reply_to}
 use Rattle.pl_model_laws.specs.Apart.{AreApart, KeepsApart}
@@ -267,13 +268,13 @@ module _ (base : List Entry) (said : List RowNow) (imported : List Entry) (keep 
   pruned_sound = sound-from (pruned base said imported) (pruned_back base [] (all_left base said imported) refers-none)
       (pairs-all AreApart (pruned base said imported) (pruned_apart base [] (all_left base said imported) tt all_apart tt))
 
--- the state of every legal history of a run that reads everything anew is sound
-pub anew-sound : (run : Fixed) (spelling : Spelling) (history : List Event) → is_refresh run.mode ≡ true
-    → KeepsApart (rows_of run) → IsLegal run spelling history → IsSound (state_of run history).entries
-anew-sound run spelling history anew apart legal =
+-- the state of every orderly history of a run that reads everything anew is sound
+pub anew-sound : (run : Fixed) (history : List Event) → is_refresh run.mode ≡ true
+    → KeepsApart (rows_of run) → IsOrderly run history → IsSound (state_of run history).entries
+anew-sound run history anew apart orderly =
     let known : Known = known_of run history in
     let live : is_refresh known.run.mode ≡ true = ap (λ (fixed : Fixed). is_refresh fixed.mode) (run_of run history) ∙ anew in
     subst (λ (b : Bool). IsSound (if b then refreshed_entries known else new_entries known ++ old_entries known)) (sym live)
     (pruned_sound (rows_of known.run) (rows_read known) (imported_entries known) (reads_keep known 0 (rows_of known.run))
     (pairs_from AreApart (rows_of known.run) (subst (λ (fixed : Fixed). KeepsApart (rows_of fixed)) (sym (run_of run history)) apart))
-    (imported-apart run spelling history legal))
+    (imported-apart run history orderly))

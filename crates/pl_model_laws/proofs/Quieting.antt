@@ -4,22 +4,23 @@ use Rattle.std.specs.List.{list_any}
 use Rattle.pl_reference.specs.declared.reference.ProviderRef.{ProviderRef}
 use Rattle.pl_state.specs.Chain.{last_from, last_place, last_provider, or_else_place, provider_row_of}
 use Rattle.pl_state.specs.References.{is_provider}
-use Rattle.pl_state.specs.Sound.{IsSound}
+use Rattle.pl_sound.specs.Sound.{IsSound}
 use Rattle.pl_state.specs.declared.entry.Entry.{Entry}
 use Rattle.pl_state.specs.declared.goal.Goal.{Goal}
 use Rattle.pl_events.specs.declared.event.Event.{Event}
 use Rattle.pl_events.specs.declared.event.What.{What}
 use Rattle.pl_events.specs.declared.event.What.TheVariants.{Told}
 use Rattle.pl_events.specs.Closing.{has_host_end}
-use Rattle.pl_model.specs.Run.{Fixed, HasNames, Spelling, has_host, is_destroy, is_preview, is_refresh, rows_of}
+use Rattle.pl_model.specs.declared.fixed.Fixed.{Fixed}
+use Rattle.pl_model.specs.Run.{HasNames, has_host, is_destroy, is_preview, is_refresh, rows_of}
 use Rattle.pl_model.specs.declared.mode.Mode.{Mode}
 use Rattle.pl_model.specs.declared.mode.Mode.TheVariants.{Up, Preview, Destroy, Refresh}
 use Rattle.pl_model.specs.Claims.{numbered}
 use Rattle.pl_model.specs.Due.{IsQuiet}
 use Rattle.pl_model.specs.History.{goals_after, known_of}
 use Rattle.pl_model.specs.Known.{Known, goal_at, has_problem, host_ended}
-use Rattle.pl_model.specs.Legal.{IsLegal, MayHappen}
-use Rattle.pl_model_laws.specs.Quiet.{IsAllDone, RepliesFit}
+use Rattle.pl_model.specs.Legal.{IsOrderly, MayHappen}
+use Rattle.pl_model_laws.specs.Quiet.{IsAllDone}
 use Rattle.pl_model_laws.proofs.Circling.{IsStill, everything_done}
 use Rattle.pl_model_laws.proofs.Ending.{end-held, end-provided}
 use Rattle.pl_model_laws.proofs.Freeing.{urn-ready}
@@ -71,55 +72,55 @@ destroys_none Preview ended h = refl
 destroys_none Destroy ended h = absurd (let e : true ≡ false = h in cc)
 destroys_none (Refresh clear imports) ended h = refl
 
-hosted_step : (spelling : Spelling) (known : Known) (seat : ℕ) (what : What) (n : ℕ) (goal : Goal) → MayHappen spelling known seat what
+hosted_step : (known : Known) (seat : ℕ) (what : What) (n : ℕ) (goal : Goal) → MayHappen known seat what
     → (goal_at known n ≡ Some goal → is_destroy known.run.mode ≡ false) → numbered (goals_after known what) n ≡ Some goal
     → is_destroy known.run.mode ≡ false
-hosted_step spelling known seat (Told request) n goal may before h = destroys_none known.run.mode (has_host_end known.history) may.host_open
-hosted_step spelling known seat _ n goal may before h = before h
+hosted_step known seat (Told request) n goal may before h = destroys_none known.run.mode (has_host_end known.history) may.host_open
+hosted_step known seat _ n goal may before h = before h
 
-hosted : (run : Fixed) (spelling : Spelling) (history : List Event) (n : ℕ) (goal : Goal) → IsLegal run spelling history
+hosted : (run : Fixed) (history : List Event) (n : ℕ) (goal : Goal) → IsOrderly run history
     → goal_at (known_of run history) n ≡ Some goal → is_destroy run.mode ≡ false
 unfolding known_of
-hosted run spelling [] n goal legal h = absurd (let e : None ≡ Some goal = h in cc)
-hosted run spelling (event ∷ past) n goal legal h =
+hosted run [] n goal orderly h = absurd (let e : None ≡ Some goal = h in cc)
+hosted run (event ∷ past) n goal orderly h =
     ap (λ (fixed : Fixed). is_destroy fixed.mode) (sym (run_of run past))
-    ∙ hosted_step spelling (known_of run past) event.seat event.what n goal legal.1
-    (λ there. ap (λ (fixed : Fixed). is_destroy fixed.mode) (run_of run past) ∙ hosted run spelling past n goal legal.0 there) h
+    ∙ hosted_step (known_of run past) event.seat event.what n goal orderly.1
+    (λ there. ap (λ (fixed : Fixed). is_destroy fixed.mode) (run_of run past) ∙ hosted run past n goal orderly.0 there) h
 
 -- ---- the law
 
 -- what holds where nothing is out, due or over the limit, whatever the mode
-pub still : (run : Fixed) (spelling : Spelling) (history : List Event)
-    → HasNames run → 0 < run.parallel → RepliesFit spelling → IsLegal run spelling history
+pub still : (run : Fixed) (history : List Event)
+    → HasNames run → 0 < run.parallel → IsOrderly run history
     → has_problem (known_of run history) ≡ false → IsQuiet (known_of run history) → IsStill run history
-still run spelling history names some fit legal calm quiet = record {
-  decided = all-decided run spelling history legal;
-  replied = λ about plain begun. reply-came run spelling fit history legal calm quiet.closed about begun;
-  goal_done = λ about number on begun. goal-recorded run spelling fit history legal calm quiet.closed about number on begun;
-  served = λ about wanted from wants listed. lanes-serve run spelling fit history legal calm quiet names some about wanted from wants listed;
+still run history names some orderly calm quiet = record {
+  decided = all-decided run history orderly;
+  replied = λ about plain begun. reply-came run history orderly calm quiet.closed about begun;
+  goal_done = λ about number on begun. goal-recorded run history orderly calm quiet.closed about number on begun;
+  served = λ about wanted from wants listed. lanes-serve run history orderly calm quiet names some about wanted from wants listed;
   config_served = λ n wants low. config-serves (known_of run history) quiet calm n wants low;
   no_keep = λ n ready low. no-keep (known_of run history) quiet calm n ready low;
   unrefused = λ n one decided. refused-trouble run history n one calm decided;
-  ready_references = λ n goal before stands. references-ready run spelling history n goal names legal before stands;
-  named = λ n goal stands provided. provided-named run spelling history n goal names legal stands provided;
+  ready_references = λ n goal before stands. references-ready run history n goal names orderly before stands;
+  named = λ n goal stands provided. provided-named run history n goal names orderly stands provided;
 }
 
-pub quiet-is-done : (run : Fixed) (spelling : Spelling) (history : List Event)
+pub quiet-is-done : (run : Fixed) (history : List Event)
     → HasNames run → is_preview run.mode ≡ false → is_refresh run.mode ≡ false
-    → 0 < run.parallel → RepliesFit spelling → IsSound (rows_of run) → IsLegal run spelling history
+    → 0 < run.parallel → IsSound (rows_of run) → IsOrderly run history
     → host_ended (known_of run history) ≡ true → has_problem (known_of run history) ≡ false → IsQuiet (known_of run history)
     → IsAllDone (known_of run history)
-quiet-is-done run spelling history names real other some fit sound legal ended calm quiet =
-    everything_done run spelling history (still run spelling history names some fit legal calm quiet) real other
-    (λ row begun. row-removed run spelling fit history legal calm quiet.closed row begun)
-    (λ n begun low. provider-configured run spelling fit history legal calm quiet real n begun low)
+quiet-is-done run history names real other some sound orderly ended calm quiet =
+    everything_done run history (still run history names some orderly calm quiet) real other
+    (λ row begun. row-removed run history orderly calm quiet.closed row begun)
+    (λ n begun low. provider-configured run history orderly calm quiet real n begun low)
     (λ row ready low. no-drop (known_of run history) quiet calm row ready
     (subst (λ (fixed : Fixed). row < length (rows_of fixed)) (sym (run_of run history)) low))
-    (λ n one row entry decided first takes at left. lacking-trouble run spelling history n row one entry real
-    (sound-apart (rows_of run) sound) legal calm decided first takes at left)
-    (λ n goal one stands decided before gone. urn-ready run spelling history n goal one legal (sound-apart (rows_of run) sound) stands decided before gone)
+    (λ n one row entry decided first takes at left. lacking-trouble run history n row one entry real
+    (sound-apart (rows_of run) sound) orderly calm decided first takes at left)
+    (λ n goal one stands decided before gone. urn-ready run history n goal one orderly (sound-apart (rows_of run) sound) stands decided before gone)
     (λ row entry here names. provider_there (rows_of run) row entry sound here names)
-    (λ n goal stands. hosted run spelling history n goal legal stands)
+    (λ n goal stands. hosted run history n goal orderly stands)
     ended
-    (λ over row entry doomed at. end-provided run spelling history legal real (sound-apart (rows_of run) sound) calm over row entry doomed at)
-    (λ over later earlier left refers doomed. end-held run spelling history legal calm over later earlier left refers doomed)
+    (λ over row entry doomed at. end-provided run history orderly real (sound-apart (rows_of run) sound) calm over row entry doomed at)
+    (λ over later earlier left refers doomed. end-held run history orderly calm over later earlier left refers doomed)

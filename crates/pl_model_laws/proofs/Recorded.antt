@@ -1,4 +1,4 @@
--- What a legal history begins and records: goals that are decided, each once, after the goals of their references.
+-- What an orderly history begins and records: goals that are decided, each once, after the goals of their references.
 use Rattle.std.proofs.Common.{◌≡◌, ℕ, ◌==◌, ◌≤◌, Bool, true, false, not, ◌&&◌, ◌||◌, if◌then◌else◌, List, [], ◌∷◌, filter, length, Option, Some, None, is_none, refl, sym, ◌∙◌, ap, subst, arith}
 use Rattle.std.specs.List.{cons_option, list_any}
 use Rattle.pl_state.specs.Chain.{some_passes}
@@ -11,15 +11,18 @@ use Rattle.pl_events.specs.declared.operation.Op.TheVariants as op
 use Rattle.pl_events.specs.declared.operation.Subject.{Subject}
 use Rattle.pl_events.specs.declared.operation.Subject.TheVariants as subject
 use Rattle.pl_events.specs.declared.reply.Reply.{Reply}
-use Rattle.pl_model.specs.Run.{Fixed, Spelling, is_preview}
-use Rattle.pl_model.specs.Tickets.{Errand, begun_of, errand_by, is_closed, same_op, was_begun}
+use Rattle.pl_model.specs.declared.decided.Decided.{Decided}
+use Rattle.pl_model.specs.declared.errand.Errand.{Errand}
+use Rattle.pl_model.specs.declared.fixed.Fixed.{Fixed}
+use Rattle.pl_model.specs.declared.work.Work.TheVariants.{Keep as to_keep, Send as to_send}
+use Rattle.pl_model.specs.Run.{is_preview}
+use Rattle.pl_model.specs.Tickets.{begun_of, errand_by, is_closed, same_op, was_begun}
 use Rattle.pl_model.specs.Recording.{goal_in, goal_of_op, has_number, recorded_by, recorded_of}
-use Rattle.pl_model.specs.Claims.{Decided}
-use Rattle.pl_model.specs.Decisions.{is_refused}
+use Rattle.pl_decide.specs.Limited.{is_refused}
 use Rattle.pl_model.specs.History.{known_of}
 use Rattle.pl_model.specs.Known.{Known, decided_goal, goal_at, has_problem, is_recorded}
-use Rattle.pl_model.specs.Due.{for_decided, is_asked, is_due, is_due_on, is_lane_of, is_placed, is_read_ready, is_ready_on, is_wanted_op, keeps_goal, on_goal, op_of_goal, passes_limit, provider_stands, references_recorded, sends_goal, to_keep, to_send, urn_is_free, way_is_free}
-use Rattle.pl_model.specs.Legal.{IsLegal, MayHappen}
+use Rattle.pl_model.specs.Due.{for_decided, is_asked, is_due, is_due_on, is_lane_of, is_placed, is_read_ready, is_ready_on, is_wanted_op, keeps_goal, on_goal, op_of_goal, passes_limit, provider_stands, references_recorded, sends_goal, urn_is_free, way_is_free}
+use Rattle.pl_model.specs.Legal.{IsOrderly, MayHappen}
 use Rattle.pl_model_laws.specs.Order.{RecordedAfterReferences}
 use Rattle.pl_model_laws.proofs.Growing.{equal_numbers}
 use Rattle.pl_model_laws.proofs.Once.{and_left, and_right, as_before, begun_at_most_once, equal_ops, not_true, one_more, unclosed}
@@ -129,12 +132,12 @@ record IsHeld (run : Fixed) (history : List Event) : Type 0 where
       → IsSent (known_of run history) number about
   pub placed : (number : ℕ) → has_number (recorded_of history) number ≡ true → IsThere (known_of run history) number
 
-module _ (run : Fixed) (spelling : Spelling) (past : List Event) (held : IsHeld run past) where
+module _ (run : Fixed) (past : List Event) (held : IsHeld run past) where
   abbrev before : Known
   before = known_of run past
 
   -- what an event records is there
-  recording : (seat : ℕ) (what : What) (number : ℕ) → MayHappen spelling before seat what → recorded_by past what ≡ Some number
+  recording : (seat : ℕ) (what : What) (number : ℕ) → MayHappen before seat what → recorded_by past what ≡ Some number
       → IsThere before number
   recording seat (Kept kept fresh) number may h =
       let due = due_kept before kept may.due in
@@ -147,14 +150,14 @@ module _ (run : Fixed) (spelling : Spelling) (past : List Event) (held : IsHeld 
   recording seat _ number may h = absurd (let e : None ≡ Some number = h in cc)
 
   -- what an event begins is due
-  begun_due : (seat : ℕ) (what : What) (errand : Errand) → MayHappen spelling before seat what → errand_by seat what ≡ Some errand
+  begun_due : (seat : ℕ) (what : What) (errand : Errand) → MayHappen before seat what → errand_by seat what ≡ Some errand
       → is_due_on before errand.op errand.lane ≡ true
   begun_due seat (Begun ticket lane about) errand may h =
       subst (λ (one : Errand). is_due_on before one.op one.lane ≡ true)
       (some_same (record { ticket = ticket; seat = seat; lane = lane; op = about }) errand h) may.due
   begun_due seat _ errand may h = absurd (let e : None ≡ Some errand = h in cc)
 
-  module _ (event : Event) (may : MayHappen spelling before event.seat event.what) where
+  module _ (event : Event) (may : MayHappen before event.seat event.what) where
     placed_next : (number : ℕ) → has_number (recorded_of (event ∷ past)) number ≡ true → IsThere (known_of run (event ∷ past)) number
     placed_next number h = by (recorded_by past event.what) refl h
       where
@@ -190,31 +193,31 @@ module _ (run : Fixed) (spelling : Spelling) (past : List Event) (held : IsHeld 
     held_next : IsHeld run (event ∷ past)
     held_next = record { sent = sent_next; placed = placed_next }
 
--- so it is in each legal history
-held : (run : Fixed) (spelling : Spelling) (history : List Event) → IsLegal run spelling history → IsHeld run history
-held run spelling [] legal = record {
+-- so it is in each orderly history
+held : (run : Fixed) (history : List Event) → IsOrderly run history → IsHeld run history
+held run [] orderly = record {
   sent = λ about number begun on. absurd (let e : false ≡ true = begun in cc);
   placed = λ number h. absurd (let e : false ≡ true = h in cc);
 }
-held run spelling (event ∷ past) legal = held_next run spelling past (held run spelling past legal.0) event legal.1
+held run (event ∷ past) orderly = held_next run past (held run past orderly.0) event orderly.1
 
-module _ (run : Fixed) (spelling : Spelling) where
+module _ (run : Fixed) where
   -- an operation that was begun on a goal is the one that the goal needs, and the goals of its references are recorded
-  pub begun-held : (history : List Event) (about : Op) (number : ℕ) → IsLegal run spelling history
+  pub begun-held : (history : List Event) (about : Op) (number : ℕ) → IsOrderly run history
       → was_begun history about ≡ true → goal_of_op about ≡ Some number → IsSent (known_of run history) number about
-  begun-held history about number legal begun on = (held run spelling history legal).sent about number begun on
+  begun-held history about number orderly begun on = (held run history orderly).sent about number begun on
 
   -- a goal that is recorded is there, and the goals of its references are recorded
-  pub recorded-held : (history : List Event) (number : ℕ) → IsLegal run spelling history
+  pub recorded-held : (history : List Event) (number : ℕ) → IsOrderly run history
       → is_recorded (known_of run history) number ≡ true → IsThere (known_of run history) number
-  recorded-held history number legal h =
-      (held run spelling history legal).placed number (sym (recorded-as run history number) ∙ h)
+  recorded-held history number orderly h =
+      (held run history orderly).placed number (sym (recorded-as run history number) ∙ h)
 
   -- and so it was before it was recorded
-  pub recording-held : (event : Event) (past : List Event) (number : ℕ) → IsLegal run spelling (event ∷ past)
+  pub recording-held : (event : Event) (past : List Event) (number : ℕ) → IsOrderly run (event ∷ past)
       → recorded_by past event.what ≡ Some number → IsThere (known_of run past) number
-  recording-held event past number legal h =
-      recording run spelling past (held run spelling past legal.0) event.seat event.what number legal.1 h
+  recording-held event past number orderly h =
+      recording run past (held run past orderly.0) event.seat event.what number orderly.1 h
 
 -- ---- each once
 
@@ -259,17 +262,17 @@ tickets_apart one other about apart errand h =
     let off : (errand.ticket == other) ≡ false = subst (λ (n : ℕ). (n == other) ≡ false) (sym at) apart in
     rw off refl
 
-module _ (run : Fixed) (spelling : Spelling) where
+module _ (run : Fixed) where
   -- an operation on a goal was begun under one ticket
-  pub one_ticket : (history : List Event) (one other : ℕ) (about : Op) (number : ℕ) → IsLegal run spelling history
+  pub one_ticket : (history : List Event) (one other : ℕ) (about : Op) (number : ℕ) → IsOrderly run history
       → goal_of_op about ≡ Some number → was_sent history one about ≡ true → was_sent history other about ≡ true → (one == other) ≡ true
-  one_ticket history one other about number legal on first second = by (one == other) refl
+  one_ticket history one other about number orderly on first second = by (one == other) refl
     where
       by : (b : Bool) → (one == other) ≡ b → (one == other) ≡ true
       by true is = is
       by false is =
           let once : length (filter (λ errand. same_op errand.op about) (begun_of history)) ≤ 1 =
-          begun_at_most_once run spelling about (not_configure about number on) history legal in
+          begun_at_most_once run about (not_configure about number on) history orderly in
           let twice : 2 ≤ length (filter (λ errand. same_op errand.op about) (begun_of history)) =
           two_pass (λ errand. same_op errand.op about)
           (λ errand. (errand.ticket == one) && same_op errand.op about) (λ errand. (errand.ticket == other) && same_op errand.op about)
@@ -278,15 +281,15 @@ module _ (run : Fixed) (spelling : Spelling) where
           absurd (omega arith)
 
   -- two operations that were begun on one goal are the same
-  pub one_op : (history : List Event) (one other : Op) (number : ℕ) → IsLegal run spelling history
+  pub one_op : (history : List Event) (one other : Op) (number : ℕ) → IsOrderly run history
       → was_begun history one ≡ true → was_begun history other ≡ true
       → goal_of_op one ≡ Some number → goal_of_op other ≡ Some number → one ≡ other
-  one_op history one other number legal first second on too =
-      let a = begun-held run spelling history one number legal first on in
-      let b = begun-held run spelling history other number legal second too in
+  one_op history one other number orderly first second on too =
+      let a = begun-held run history one number orderly first on in
+      let b = begun-held run history other number orderly second too in
       some_same one other (sym a.3 ∙ same_need (known_of run history) number a.0 b.0 a.1 b.1 a.2 b.2 ∙ b.3)
 
-  module _ (seat : ℕ) (past : List Event) (legal : IsLegal run spelling past) (ticket : ℕ) (about : Op) (number : ℕ)
+  module _ (seat : ℕ) (past : List Event) (orderly : IsOrderly run past) (ticket : ℕ) (about : Op) (number : ℕ)
       (on : goal_of_op about ≡ Some number)
       (rest : was_sent past ticket about ≡ true → is_closed past ticket ≡ false → has_number (recorded_of past) number ≡ false) where
     abbrev at_past : Known
@@ -296,7 +299,7 @@ module _ (run : Fixed) (spelling : Spelling) where
     not_kept : (kept : ℕ) → is_due at_past (to_keep kept) ≡ true → (kept == number) ≡ true → was_sent past ticket about ≡ true → ⊥
     not_kept kept due at sent =
         let it = due_kept at_past number (subst (λ (n : ℕ). is_due at_past (to_keep n) ≡ true) (equal_numbers kept number at) due) in
-        let begun = begun-held run spelling past about number legal (sent_begun past ticket about sent) on in
+        let begun = begun-held run past about number orderly (sent_begun past ticket about sent) on in
         let e : None ≡ Some about = sym it.3 ∙ same_need at_past number it.0 begun.0 it.1 begun.1 it.2 begun.2 ∙ begun.3 in
         cc
 
@@ -307,14 +310,14 @@ module _ (run : Fixed) (spelling : Spelling) where
         let found = answered_errand past other reply again is in
         let too : goal_of_op found.0.op ≡ Some number = found.2 ∙ ap (λ (n : ℕ). Some n) (equal_numbers again number at) in
         let went : was_sent past other found.0.op ≡ true = errand_sent past other found.0 found.1 in
-        let same : found.0.op ≡ about = one_op past found.0.op about number legal
+        let same : found.0.op ≡ about = one_op past found.0.op about number orderly
         (sent_begun past other found.0.op went) (sent_begun past ticket about sent) too on in
-        let e : false ≡ true = sym apart ∙ one_ticket past other ticket about number legal on
+        let e : false ≡ true = sym apart ∙ one_ticket past other ticket about number orderly on
         (subst (λ (one : Op). was_sent past other one ≡ true) same went) sent in
         cc
 
     -- an event after which the ticket is open records another goal or none
-    unrecorded_next : (what : What) → MayHappen spelling at_past seat what
+    unrecorded_next : (what : What) → MayHappen at_past seat what
         → was_sent (record { seat = seat; what = what } ∷ past) ticket about ≡ true
         → is_closed (record { seat = seat; what = what } ∷ past) ticket ≡ false
         → has_number (recorded_of (record { seat = seat; what = what } ∷ past)) number ≡ false
@@ -349,47 +352,47 @@ module _ (run : Fixed) (spelling : Spelling) where
         by false at = rest sent closed
     unrecorded_next _ may sent closed = rest sent closed
 
-  unrecorded_open : (history : List Event) (ticket : ℕ) (about : Op) (number : ℕ) → IsLegal run spelling history
+  unrecorded_open : (history : List Event) (ticket : ℕ) (about : Op) (number : ℕ) → IsOrderly run history
       → was_sent history ticket about ≡ true → goal_of_op about ≡ Some number → is_closed history ticket ≡ false
       → has_number (recorded_of history) number ≡ false
-  unrecorded_open [] ticket about number legal sent on closed = refl
-  unrecorded_open (event ∷ past) ticket about number legal sent on closed =
-      unrecorded_next event.seat past legal.0 ticket about number on
-      (λ was still. unrecorded_open past ticket about number legal.0 was on still) event.what legal.1 sent closed
+  unrecorded_open [] ticket about number orderly sent on closed = refl
+  unrecorded_open (event ∷ past) ticket about number orderly sent on closed =
+      unrecorded_next event.seat past orderly.0 ticket about number on
+      (λ was still. unrecorded_open past ticket about number orderly.0 was on still) event.what orderly.1 sent closed
 
   -- a goal is not recorded while an operation on it is open
-  pub open-unrecorded : (history : List Event) (ticket : ℕ) (about : Op) (number : ℕ) → IsLegal run spelling history
+  pub open-unrecorded : (history : List Event) (ticket : ℕ) (about : Op) (number : ℕ) → IsOrderly run history
       → was_sent history ticket about ≡ true → goal_of_op about ≡ Some number → is_closed history ticket ≡ false
       → is_recorded (known_of run history) number ≡ false
-  open-unrecorded history ticket about number legal sent on closed =
-      recorded-as run history number ∙ unrecorded_open history ticket about number legal sent on closed
+  open-unrecorded history ticket about number orderly sent on closed =
+      recorded-as run history number ∙ unrecorded_open history ticket about number orderly sent on closed
 
   -- what an event records was not recorded
-  pub recording-new : (seat : ℕ) (past : List Event) (what : What) (number : ℕ) → IsLegal run spelling past
-      → MayHappen spelling (known_of run past) seat what → recorded_by past what ≡ Some number
+  pub recording-new : (seat : ℕ) (past : List Event) (what : What) (number : ℕ) → IsOrderly run past
+      → MayHappen (known_of run past) seat what → recorded_by past what ≡ Some number
       → has_number (recorded_of past) number ≡ false
-  recording-new seat past (Kept kept fresh) number legal may h =
+  recording-new seat past (Kept kept fresh) number orderly may h =
       subst (λ (n : ℕ). has_number (recorded_of past) n ≡ false) (some_same kept number h)
       (sym (recorded-as run past kept) ∙ (due_kept (known_of run past) kept may.due).4)
-  recording-new seat past (Answered ticket reply) number legal may h =
+  recording-new seat past (Answered ticket reply) number orderly may h =
       let found = answered_errand past ticket reply number h in
-      unrecorded_open past ticket found.0.op number legal (errand_sent past ticket found.0 found.1) found.2
-      (unclosed run spelling seat ticket past may.closes)
-  recording-new seat past _ number legal may h = absurd (let e : None ≡ Some number = h in cc)
+      unrecorded_open past ticket found.0.op number orderly (errand_sent past ticket found.0 found.1) found.2
+      (unclosed run seat ticket past may.closes)
+  recording-new seat past _ number orderly may h = absurd (let e : None ≡ Some number = h in cc)
 
   -- no goal is recorded twice
-  pub recorded_at_most_once : (history : List Event) (number : ℕ) → IsLegal run spelling history
+  pub recorded_at_most_once : (history : List Event) (number : ℕ) → IsOrderly run history
       → length (filter (λ other. other == number) (recorded_of history)) ≤ 1
-  recorded_at_most_once [] number legal = omega arith
-  recorded_at_most_once (event ∷ past) number legal =
-      by (recorded_by past event.what) refl (recorded_at_most_once past number legal.0)
+  recorded_at_most_once [] number orderly = omega arith
+  recorded_at_most_once (event ∷ past) number orderly =
+      by (recorded_by past event.what) refl (recorded_at_most_once past number orderly.0)
     where
       new : (other : ℕ) → recorded_by past event.what ≡ Some other → (b : Bool) → (other == number) ≡ b
           → length (filter (λ one. one == number) (recorded_of past)) ≤ 1
           → length (filter (λ one. one == number) (other ∷ recorded_of past)) ≤ 1
       new other is true at few = one_more (λ one. one == number) other (recorded_of past)
           (subst (λ (n : ℕ). has_number (recorded_of past) n ≡ false) (equal_numbers other number at)
-          (recording-new event.seat past event.what other legal.0 legal.1 is))
+          (recording-new event.seat past event.what other orderly.0 orderly.1 is))
       new other is false at few = as_before (λ one. one == number) other (recorded_of past) at few
 
       by : (o : Option ℕ) → recorded_by past event.what ≡ o → length (filter (λ one. one == number) (recorded_of past)) ≤ 1
@@ -399,7 +402,7 @@ module _ (run : Fixed) (spelling : Spelling) where
 
 -- a goal is recorded after the goals of its references
 pub recorded-after-references : RecordedAfterReferences
-recorded-after-references = λ run spelling event past number goal legal records stands.
-    let there = recording-held run spelling event past number legal records in
+recorded-after-references = λ run event past number goal orderly records stands.
+    let there = recording-held run event past number orderly records in
     subst (λ (it : Goal). references_recorded (known_of run past) it ≡ true)
     (some_same there.0 goal (sym there.2.stands ∙ stands)) there.2.references

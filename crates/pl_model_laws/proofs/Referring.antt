@@ -7,7 +7,7 @@ use Rattle.std.proofs.lemmas.Slice.Eq.{bytes_eq-Decides}
 use Rattle.std.specs.List.{cons_option, list_any, list_all}
 use Rattle.pl_state.specs.Kinds.{is_provider_goal}
 use Rattle.pl_state.specs.References.{further_urns, has_urn, is_id, is_provider, optional_refs, option_list, property_urns}
-use Rattle.pl_state.specs.Sound.{is_met}
+use Rattle.pl_sound.specs.Sound.{is_met}
 use Rattle.pl_state.specs.declared.entry.Entry.{Entry}
 use Rattle.pl_state.specs.declared.fault.Missing.{Missing}
 use Rattle.pl_state.specs.declared.fault.Missing.TheVariants.{Parent, Provider}
@@ -15,14 +15,15 @@ use Rattle.pl_state.specs.declared.goal.Goal.{Goal}
 use Rattle.pl_events.specs.declared.event.Event.{Event}
 use Rattle.pl_events.specs.declared.event.What.{What}
 use Rattle.pl_events.specs.declared.event.What.TheVariants.{Told}
-use Rattle.pl_model.specs.Run.{Fixed, Spelling}
+use Rattle.pl_model.specs.declared.decided.Decided.{Decided}
+use Rattle.pl_model.specs.declared.fixed.Fixed.{Fixed}
 use Rattle.pl_model.specs.Recording.{has_number, recorded_by, recorded_of}
-use Rattle.pl_model.specs.Claims.{Decided, numbered, goal_number}
+use Rattle.pl_model.specs.Claims.{numbered, goal_number}
 use Rattle.pl_model.specs.Due.{references_recorded, is_recorded_urn, none_or}
 use Rattle.pl_model.specs.Entries.{Result, recorded_entry, recording_of, reference_to}
 use Rattle.pl_model.specs.History.{known_of, goals_after}
 use Rattle.pl_model.specs.Known.{Known, decided_goal, goal_at, is_recorded, provider_id}
-use Rattle.pl_model.specs.Legal.{IsLegal}
+use Rattle.pl_model.specs.Legal.{IsOrderly}
 use Rattle.pl_model_laws.specs.Order.{RecordedAfterReferences}
 use Rattle.pl_model_laws.proofs.Growing.{equal_numbers, or_true, goals-stay, numbered_more, recordings-stay, same_number}
 use Rattle.pl_model_laws.proofs.Once.{and_left, and_right, history_of}
@@ -79,10 +80,10 @@ origin_of (newest ∷ earlier) newer number older h =
         let e : own ∷ recorded_of earlier ≡ other ∷ (front ++ (number ∷ older)) = h in cc in
         later_origin newest earlier number older (rest front behind)
 
--- the histories before are legal
-pub legal_within : (run : Fixed) (spelling : Spelling) (added past : List Event) → IsLegal run spelling (added ++ past) → IsLegal run spelling past
-legal_within run spelling [] past legal = legal
-legal_within run spelling (event ∷ added) past legal = legal_within run spelling added past legal.0
+-- the histories before are orderly
+pub orderly_within : (run : Fixed) (added past : List Event) → IsOrderly run (added ++ past) → IsOrderly run past
+orderly_within run [] past orderly = orderly
+orderly_within run (event ∷ added) past orderly = orderly_within run added past orderly.0
 
 -- a goal stays while events are added
 pub goals_within : (run : Fixed) (added past : List Event) (number : ℕ) (goal : Goal)
@@ -229,7 +230,7 @@ pub record Standing (known : Known) (number : ℕ) (goal : Goal) : Type 0 where
   pub entry : recorded_entry known number ≡ Some row
   pub stands : Stands known goal result row
 
-module _ (run : Fixed) (spelling : Spelling) (history : List Event) (legal : IsLegal run spelling history) (held : (past : List Event) (number : ℕ) → IsLegal run spelling past → is_recorded (known_of run past) number ≡ true → Held (known_of run past) number) (after : RecordedAfterReferences) (provide : ProvidersProvide (known_of run history)) where
+module _ (run : Fixed) (history : List Event) (orderly : IsOrderly run history) (held : (past : List Event) (number : ℕ) → IsOrderly run past → is_recorded (known_of run past) number ≡ true → Held (known_of run past) number) (after : RecordedAfterReferences) (provide : ProvidersProvide (known_of run history)) where
   -- what the history tells
   abbrev known : Known
   known = known_of run history
@@ -242,7 +243,7 @@ module _ (run : Fixed) (spelling : Spelling) (history : List Event) (legal : IsL
   pub recorded_stands : (number : ℕ) (goal : Goal) → is_recorded (known_of run history) number ≡ true → goal_at (known_of run history) number ≡ Some goal
       → Standing (known_of run history) number goal
   recorded_stands number goal recorded here =
-      let holds = held history number legal recorded in
+      let holds = held history number orderly recorded in
       let found = recording-there run history number goal holds.1 recorded in
       let standing = entry-there (known_of run history) number goal holds.1 found.0 here holds.3 found.1 in
       record {
@@ -260,10 +261,10 @@ module _ (run : Fixed) (spelling : Spelling) (history : List Event) (legal : IsL
     abbrev before : Known
     before = known_of run origin.past
 
-    -- the history was legal when the goal was recorded
-    legal_here : IsLegal run spelling (origin.event ∷ origin.past)
-    legal_here =
-        legal_within run spelling origin.added (origin.event ∷ origin.past) (subst (λ (events : List Event). IsLegal run spelling events) origin.whole legal)
+    -- the history was orderly when the goal was recorded
+    orderly_here : IsOrderly run (origin.event ∷ origin.past)
+    orderly_here =
+        orderly_within run origin.added (origin.event ∷ origin.past) (subst (λ (events : List Event). IsOrderly run events) origin.whole orderly)
 
     -- a goal that stood then stands now
     goal_now : (own : ℕ) (goal : Goal) → goal_at (known_of run (origin.event ∷ origin.past)) own ≡ Some goal → goal_at (known_of run history) own ≡ Some goal
@@ -315,7 +316,7 @@ module _ (run : Fixed) (spelling : Spelling) (history : List Event) (legal : IsL
         → is_provider_goal other ≡ true → Standing (known_of run history) own other
         → list_all (is_met (rows_of older)) (optional_refs Provider (reference_to (known_of run history) own)) ≡ true
     older_provider_met own other there h provider standing =
-        let ids = provider-id run spelling history own other standing.one standing.result legal (recorded_now own h) provider there
+        let ids = provider-id run history own other standing.one standing.result orderly (recorded_now own h) provider there
         standing.decided standing.recording in
         let text = some_there (provider_id (known_of run history) own) ids.1 in
         named_met own other text.0 there h standing ids.0 text.1
@@ -324,7 +325,7 @@ module _ (run : Fixed) (spelling : Spelling) (history : List Event) (legal : IsL
     provider_met : (goal : Goal) (own : ℕ) → goal_at (known_of run history) number ≡ Some goal → goal.provider ≡ Some own → is_recorded before own ≡ true
         → list_all (is_met (rows_of older)) (optional_refs Provider (reference_to (known_of run history) own)) ≡ true
     provider_met goal own here names h =
-        let holds = held origin.past own legal_here.0 h in
+        let holds = held origin.past own orderly_here.0 h in
         let there : goal_at (known_of run history) own ≡ Some holds.0 = goal_then own holds.0 holds.2 in
         older_provider_met own holds.0 there h (provide number own goal holds.0 here names there)
         (recorded_stands own holds.0 (recorded_now own h) there)
@@ -346,10 +347,10 @@ module _ (run : Fixed) (spelling : Spelling) (history : List Event) (legal : IsL
     references_then goal here =
         let recorded : is_recorded (known_of run (origin.event ∷ origin.past)) number ≡ true =
         subst (λ (events : List Event). has_number (recorded_of events) number ≡ true) (sym (history_of run (origin.event ∷ origin.past))) recorded_here in
-        let holds = held (origin.event ∷ origin.past) number legal_here recorded in
+        let holds = held (origin.event ∷ origin.past) number orderly_here recorded in
         let same : holds.0 ≡ goal = only_there (goal_at (known_of run history) number) goal here holds.0 (goal_now number holds.0 holds.2) in
         subst (λ (it : Goal). references_recorded before it ≡ true) same
-        (after run spelling origin.event origin.past number holds.0 legal_here origin.records
+        (after run origin.event origin.past number holds.0 orderly_here origin.records
         (goal_before_recording run origin.event origin.past number holds.0 origin.records holds.2))
 
     -- the reference to a parent is met
@@ -394,7 +395,7 @@ module _ (run : Fixed) (spelling : Spelling) (history : List Event) (legal : IsL
   new-met newer number older split row is =
       let origin : Origin history number older = origin_of history newer number older split in
       let recorded = recorded_at_last number older origin in
-      let holds = held history number legal recorded in
+      let holds = held history number orderly recorded in
       let standing = recorded_stands number holds.0 recorded holds.2 in
       let same : standing.row ≡ row = let e : Some standing.row ≡ Some row = sym standing.entry ∙ is in cc in
       subst (λ (it : Entry). MeetsReferences (rows_of older) it) same

@@ -14,15 +14,21 @@ use Rattle.pl_events.specs.declared.operation.Op.{Op}
 use Rattle.pl_events.specs.declared.operation.Op.TheVariants as op
 use Rattle.pl_events.specs.declared.operation.Subject.TheVariants as subject
 use Rattle.pl_events.specs.declared.reply.Reply.{Reply}
-use Rattle.pl_model.specs.Run.{Fixed, Spelling, has_host, is_preview, is_refresh, rows_of}
-use Rattle.pl_model.specs.Tickets.{Errand, errand_at, same_op, was_begun}
+use Rattle.pl_model.specs.declared.decided.Decided.{Decided}
+use Rattle.pl_model.specs.declared.errand.Errand.{Errand}
+use Rattle.pl_model.specs.declared.fixed.Fixed.{Fixed}
+use Rattle.pl_model.specs.declared.work.Work.TheVariants.{Drop as to_drop, Send as to_send}
+use Rattle.pl_model.specs.Run.{has_host, is_preview, is_refresh, rows_of}
+use Rattle.pl_model.specs.Tickets.{errand_at, same_op, was_begun}
 use Rattle.pl_model.specs.Recording.{has_number, is_removed, only_if, removed_by, removed_by_reply, removed_of, row_of_delete}
-use Rattle.pl_model.specs.Claims.{Decided, chain_of_goal, claimer_of, is_chained, is_claimed, is_create_first, is_delete_first, is_row, numbered}
-use Rattle.pl_model.specs.Due.{is_delete_ready, is_drop_ready, is_due, is_due_on, is_lane_of, is_ready, is_ready_on, is_removable, is_wanted_op, passes_limit, to_drop, to_send}
+use Rattle.pl_decide.specs.Limited.{is_create_first, is_delete_first}
+use Rattle.pl_model.specs.Claims.{chain_of_goal, claimer_of, is_chained, is_claimed, is_row, numbered}
+use Rattle.pl_model.specs.Due.{is_delete_ready, is_drop_ready, is_due, is_due_on, is_lane_of, is_ready, is_ready_on, is_removable, is_wanted_op, passes_limit}
 use Rattle.pl_model.specs.History.{goals_after, known_of}
 use Rattle.pl_model.specs.Known.{Known, all_recorded, decided_goal, goal_at, has_problem, host_ended, is_over, is_recorded}
-use Rattle.pl_model.specs.Legal.{IsLegal, MayHappen}
-use Rattle.pl_model.specs.Rows.{has_dependents, is_deleted_first, is_doomed, is_left, is_marked, is_replaced, is_sent, is_taken_out, is_taken_over, is_target, row_at, stands_beside, takes_along, was_removed}
+use Rattle.pl_model.specs.Legal.{IsOrderly, MayHappen}
+use Rattle.pl_model.specs.Rows.{goes_now, has_dependents, is_deleted_first, is_doomed, is_left, is_marked, is_replaced, is_sent, is_taken_out, is_taken_over, is_target, row_at, stands_beside, takes_along, was_removed}
+use Rattle.pl_model_laws.proofs.Along.{along-told}
 use Rattle.pl_model_laws.proofs.Claiming.{claims-allowed, numbered_behind, numbered_passes, numbered_there, passing_number, was-made, where_found}
 use Rattle.pl_model_laws.proofs.Growing.{Grown, decisions-stay, equal_numbers, goals-stay, numbered_below, or_true, run_of}
 use Rattle.pl_model_laws.proofs.Leaving.{claim-gone, claimed-once, claimer_is, claimer_parts, known-apart, left_made}
@@ -50,16 +56,16 @@ later-now run history = record {
 }
 
 -- where the host has ended no goal comes
-none_told : (spelling : Spelling) (known : Known) (seat : ℕ) (what : What) → MayHappen spelling known seat what → host_ended known ≡ true
+none_told : (known : Known) (seat : ℕ) (what : What) → MayHappen known seat what → host_ended known ≡ true
     → goals_after known what ≡ known.goals
-none_told spelling known seat (Told request) may h = absurd (let e : true ≡ false = sym h ∙ may.host_open in cc)
-none_told spelling known seat _ may h = refl
+none_told known seat (Told request) may h = absurd (let e : true ≡ false = sym h ∙ may.host_open in cc)
+none_told known seat _ may h = refl
 
-ended_goals : (run : Fixed) (spelling : Spelling) (event : Event) (past : List Event)
-    → MayHappen spelling (known_of run past) event.seat event.what → host_ended (known_of run past) ≡ true
+ended_goals : (run : Fixed) (event : Event) (past : List Event)
+    → MayHappen (known_of run past) event.seat event.what → host_ended (known_of run past) ≡ true
     → (known_of run (event ∷ past)).goals ≡ (known_of run past).goals
 unfolding known_of
-ended_goals run spelling event past may h = none_told spelling (known_of run past) event.seat event.what may h
+ended_goals run event past may h = none_told (known_of run past) event.seat event.what may h
 
 ended_as : (run : Fixed) (history : List Event) → host_ended (known_of run history) ≡ (not (has_host run.mode) || has_host_end history)
 ended_as run history =
@@ -75,14 +81,14 @@ ended_stays run event past h =
     by true newest h = refl
     by false newest h = ap (λ (b : Bool). newest || b) h ∙ or_true newest
 
-pub later-before : (run : Fixed) (spelling : Spelling) (event : Event) (past : List Event) (known : Known)
-    → MayHappen spelling (known_of run past) event.seat event.what → Later run (event ∷ past) known → Later run past known
-later-before run spelling event past known may later = record {
+pub later-before : (run : Fixed) (event : Event) (past : List Event) (known : Known)
+    → MayHappen (known_of run past) event.seat event.what → Later run (event ∷ past) known → Later run past known
+later-before run event past known may later = record {
   goals = λ n goal h. later.goals n goal (goals-stay run event past n goal h);
   decisions = λ n one h. later.decisions n one (decisions-stay run event past n one h);
   recordings = λ n h. later.recordings n (recorded-stays run event past n h);
   closed = λ h. later.closed (ended_stays run event past h);
-  ended = λ h. later.ended (ended_stays run event past h) ∙ ended_goals run spelling event past may h;
+  ended = λ h. later.ended (ended_stays run event past h) ∙ ended_goals run event past may h;
 }
 
 -- what is later than a history at which the host has ended is later than those before it
@@ -180,39 +186,39 @@ deleted-removable known row lane h =
     and_left (is_removable known row) (is_sent known row) asked
 
 -- a history before this one at which the row could be deleted or dropped; what is later than this one is later than it
-pub record WasRemovable (run : Fixed) (spelling : Spelling) (history : List Event) (row : ℕ) : Type 0 where
+pub record WasRemovable (run : Fixed) (history : List Event) (row : ℕ) : Type 0 where
   pub past : List Event
   pub later : (known : Known) → Later run history known → Later run past known
-  pub legal : IsLegal run spelling past
+  pub orderly : IsOrderly run past
   pub removable : is_removable (known_of run past) row ≡ true
 
-module _ (run : Fixed) (spelling : Spelling) (row : ℕ) where
+module _ (run : Fixed) (row : ℕ) where
   abbrev deletes : Op
   deletes = op.Delete (subject.Row row)
 
   abbrev WasSo : List Event → Type 0
-  WasSo history = WasRemovable run spelling history row
+  WasSo history = WasRemovable run history row
 
-  module _ (event : Event) (past : List Event) (legal : IsLegal run spelling (event ∷ past)) where
+  module _ (event : Event) (past : List Event) (orderly : IsOrderly run (event ∷ past)) where
     -- what could go before the last event
     so_now : is_removable (known_of run past) row ≡ true → WasSo (event ∷ past)
     so_now h = record {
       past = past;
-      later = λ known later. later-before run spelling event past known legal.1 later;
-      legal = legal.0;
+      later = λ known later. later-before run event past known orderly.1 later;
+      orderly = orderly.0;
       removable = h;
     }
 
     so_before : WasSo past → WasSo (event ∷ past)
     so_before was = record {
       past = was.past;
-      later = λ known later. was.later known (later-before run spelling event past known legal.1 later);
-      legal = was.legal;
+      later = λ known later. was.later known (later-before run event past known orderly.1 later);
+      orderly = was.orderly;
       removable = was.removable;
     }
 
   -- its deletion was due when it was begun
-  begun_step : (past : List Event) → (seat : ℕ) (what : What) → MayHappen spelling (known_of run past) seat what
+  begun_step : (past : List Event) → (seat : ℕ) (what : What) → MayHappen (known_of run past) seat what
       → was_begun (record { seat = seat; what = what } ∷ past) deletes ≡ true
       → (is_removable (known_of run past) row ≡ true) ⊎ (was_begun past deletes ≡ true)
   begun_step past seat (Begun ticket lane about) may begun = by (same_op about deletes) refl begun
@@ -224,18 +230,18 @@ module _ (run : Fixed) (spelling : Spelling) (row : ℕ) where
       by false is h = inr h
   begun_step past seat _ may begun = inr begun
 
-  pub begun-removable : (history : List Event) → IsLegal run spelling history → was_begun history deletes ≡ true → WasSo history
-  begun-removable [] legal begun = absurd (let e : false ≡ true = begun in cc)
-  begun-removable (event ∷ past) legal begun =
-      by (begun_step past event.seat event.what legal.1 begun) (begun-removable past legal.0)
+  pub begun-removable : (history : List Event) → IsOrderly run history → was_begun history deletes ≡ true → WasSo history
+  begun-removable [] orderly begun = absurd (let e : false ≡ true = begun in cc)
+  begun-removable (event ∷ past) orderly begun =
+      by (begun_step past event.seat event.what orderly.1 begun) (begun-removable past orderly.0)
     where
       by : (is_removable (known_of run past) row ≡ true) ⊎ (was_begun past deletes ≡ true)
           → (was_begun past deletes ≡ true → WasSo past) → WasSo (event ∷ past)
-      by (inl can) rest = so_now event past legal can
-      by (inr old) rest = so_before event past legal (rest old)
+      by (inl can) rest = so_now event past orderly can
+      by (inr old) rest = so_before event past orderly (rest old)
 
   -- what an event deletes or drops could go
-  removed_step : (past : List Event) (seat : ℕ) (what : What) → MayHappen spelling (known_of run past) seat what
+  removed_step : (past : List Event) (seat : ℕ) (what : What) → MayHappen (known_of run past) seat what
       → removed_by past what ≡ Some row → (is_removable (known_of run past) row ≡ true) ⊎ (was_begun past deletes ≡ true)
   removed_step past seat (Dropped own) may h =
       inl (dropped-removable (known_of run past) row
@@ -247,29 +253,29 @@ module _ (run : Fixed) (spelling : Spelling) (row : ℕ) where
   removed_step past seat _ may h = absurd (let e : None ≡ Some row = h in cc)
 
   -- what was deleted or dropped could go
-  pub removed-removable : (history : List Event) → IsLegal run spelling history → has_number (removed_of history) row ≡ true → WasSo history
-  removed-removable [] legal h = absurd (let e : false ≡ true = h in cc)
-  removed-removable (event ∷ past) legal h =
-      by (removed_by past event.what) refl h (removed-removable past legal.0)
+  pub removed-removable : (history : List Event) → IsOrderly run history → has_number (removed_of history) row ≡ true → WasSo history
+  removed-removable [] orderly h = absurd (let e : false ≡ true = h in cc)
+  removed-removable (event ∷ past) orderly h =
+      by (removed_by past event.what) refl h (removed-removable past orderly.0)
     where
       here : (is_removable (known_of run past) row ≡ true) ⊎ (was_begun past deletes ≡ true) → WasSo (event ∷ past)
-      here (inl can) = so_now event past legal can
-      here (inr begun) = so_before event past legal (begun-removable past legal.0 begun)
+      here (inl can) = so_now event past orderly can
+      here (inr begun) = so_before event past orderly (begun-removable past orderly.0 begun)
 
       at : (own : ℕ) → removed_by past event.what ≡ Some own → (b : Bool) → (own == row) ≡ b
           → (b || has_number (removed_of past) row) ≡ true → (has_number (removed_of past) row ≡ true → WasSo past) → WasSo (event ∷ past)
       at own is true same h rest =
-          here (removed_step past event.seat event.what legal.1 (is ∙ ap (λ (n : ℕ). Some n) (equal_numbers own row same)))
-      at own is false same h rest = so_before event past legal (rest h)
+          here (removed_step past event.seat event.what orderly.1 (is ∙ ap (λ (n : ℕ). Some n) (equal_numbers own row same)))
+      at own is false same h rest = so_before event past orderly (rest h)
 
       by : (o : Option ℕ) → removed_by past event.what ≡ o → has_number (cons_option o (removed_of past)) row ≡ true
           → (has_number (removed_of past) row ≡ true → WasSo past) → WasSo (event ∷ past)
-      by None is h rest = so_before event past legal (rest h)
+      by None is h rest = so_before event past orderly (rest h)
       by (Some own) is h rest = at own is (own == row) refl h rest
 
 -- ---- the row of a claim
 
-module _ (run : Fixed) (spelling : Spelling) (history : List Event) (number row : ℕ) (one : Decided)
+module _ (run : Fixed) (history : List Event) (number row : ℕ) (one : Decided)
     (decided : decided_goal (known_of run history) number ≡ Some one) (claims : is_row one.claim row ≡ true) where
   abbrev known : Known
   known = known_of run history
@@ -327,15 +333,14 @@ module _ (run : Fixed) (spelling : Spelling) (history : List Event) (number row 
       own.1 ∙ ap (λ (it : Decided). Some it) (only_one past later own.0 own.1)
 
   -- where the row was to go the claim was decided already
-  pub claimed-then : (past : List Event) → Later run past known → IsLegal run spelling past → is_doomed (known_of run past) row ≡ true
+  pub claimed-then : (past : List Event) → Later run past known → IsOrderly run past → is_doomed (known_of run past) row ≡ true
       → decided_goal (known_of run past) number ≡ Some one
-  claimed-then past later legal h =
+  claimed-then past later orderly h =
       by (is_over (known_of run past)) refl
       (and_right (is_left (known_of run past) row && not (is_refresh (known_of run past).run.mode) && is_target (known_of run past) row) _ h)
     where
       taken : (n : ℕ) (other : Decided) → decided_goal (known_of run past) n ≡ Some other → (b : Bool) → is_row other.claim row ≡ b
-          → (b || (has_number (chain_of_goal (known_of run past).run other) row
-          && (not (is_claimed (known_of run past).decided row) || is_marked (known_of run past) row))) ≡ true
+          → (b || (has_number (chain_of_goal (known_of run past).run other) row && goes_now (known_of run past) row)) ≡ true
           → decided_goal (known_of run past) number ≡ Some one
       taken n other at true is takes =
           let same : number ≡ n = sym (same_goal past later n other at is) in
@@ -350,7 +355,7 @@ module _ (run : Fixed) (spelling : Spelling) (history : List Event) (number row 
           → (b || list_any (takes_along (known_of run past) row) (known_of run past).decided) ≡ true
           → decided_goal (known_of run past) number ≡ Some one
       by true is h =
-          let there = recorded-held run spelling past number legal (over_recorded past later is) in
+          let there = recorded-held run past number orderly (over_recorded past later is) in
           there.2.decided ∙ ap (λ (it : Decided). Some it) (only_one past later there.1 there.2.decided)
       by false is h =
           let found = passing_number (takes_along (known_of run past) row) (known_of run past).decided h in
@@ -404,10 +409,10 @@ module _ (run : Fixed) (spelling : Spelling) (history : List Event) (number row 
         ap (λ (b : Bool). b || is_replaced (known_of run past) row) base ∙ unreplaced past later
 
     -- a recorded goal took it over
-    gone_so : (past : List Event) → Later run past known → IsLegal run spelling past
+    gone_so : (past : List Event) → Later run past known → IsOrderly run past
         → is_recorded (known_of run past) number ≡ true → is_left (known_of run past) row ≡ true → ⊥
-    gone_so past later legal recorded left =
-        let there = recorded-held run spelling past number legal recorded in
+    gone_so past later orderly recorded left =
+        let there = recorded-held run past number orderly recorded in
         let own : decided_goal (known_of run past) number ≡ Some one =
         there.2.decided ∙ ap (λ (it : Decided). Some it) (only_one past later there.1 there.2.decided) in
         let e : true ≡ false = sym (claim-gone run past number one row own claims recorded left) ∙ unmarked_so past later in
@@ -438,8 +443,7 @@ module _ (run : Fixed) (spelling : Spelling) (history : List Event) (number row 
 
           by : (n : ℕ) (other : Decided) → decided_goal (known_of run past) n ≡ Some other → (b : Bool) → is_row other.claim row ≡ b
               → is_delete_first other.decision ≡ true
-              → (b || (has_number (chain_of_goal (known_of run past).run other) row
-              && (not (is_claimed (known_of run past).decided row) || is_marked (known_of run past) row))) ≡ true → ⊥
+              → (b || (has_number (chain_of_goal (known_of run past).run other) row && goes_now (known_of run past) row)) ≡ true → ⊥
           by n other at true is first takes =
               let same : other ≡ one = only_claimer past later n other at is in
               let e : true ≡ false = sym first ∙ ap (λ (it : Decided). is_delete_first it.decision) same ∙ deletes_none in
@@ -450,12 +454,13 @@ module _ (run : Fixed) (spelling : Spelling) (history : List Event) (number row 
               (and_left (has_number (chain_of_goal (known_of run past).run other) row) _ takes) in
               let free : not (is_claimed (known_of run past).decided row) ≡ true =
               first_of_two (not (is_claimed (known_of run past).decided row)) (is_marked (known_of run past) row)
-              (and_right (has_number (chain_of_goal (known_of run past).run other) row) _ takes) (unmarked_so past later) in
+              (along-told (known_of run past) row (and_right (has_number (chain_of_goal (known_of run past).run other) row) _ takes))
+              (unmarked_so past later) in
               unclaimed n other at chained (not_true (is_claimed (known_of run past).decided row) free)
 
       -- so it is never to go
-      not_doomed : (past : List Event) → Later run past known → IsLegal run spelling past → is_doomed (known_of run past) row ≡ true → ⊥
-      not_doomed past later legal h =
+      not_doomed : (past : List Event) → Later run past known → IsOrderly run past → is_doomed (known_of run past) row ≡ true → ⊥
+      not_doomed past later orderly h =
           let before : (is_left (known_of run past) row && not (is_refresh (known_of run past).run.mode) && is_target (known_of run past) row) ≡ true =
           and_left _ (is_over (known_of run past) || list_any (takes_along (known_of run past) row) (known_of run past).decided) h in
           let left : is_left (known_of run past) row ≡ true =
@@ -465,7 +470,7 @@ module _ (run : Fixed) (spelling : Spelling) (history : List Event) (number row 
         where
           by : is_left (known_of run past) row ≡ true → (b : Bool) → is_over (known_of run past) ≡ b
               → (b || list_any (takes_along (known_of run past) row) (known_of run past).decided) ≡ true → ⊥
-          by left true is h = gone_so past later legal (over_recorded past later is) left
+          by left true is h = gone_so past later orderly (over_recorded past later is) left
           by left false is h = none_takes past later h
 
   -- a row that a goal claims and does not replace is not marked
@@ -473,25 +478,25 @@ module _ (run : Fixed) (spelling : Spelling) (history : List Event) (number row 
   never-marked creates_none past later = unmarked_so (never_replaced creates_none) past later
 
   -- and it is gone once the goal is recorded
-  pub recorded-gone : is_create_first one.decision ≡ false → (past : List Event) → Later run past known → IsLegal run spelling past
+  pub recorded-gone : is_create_first one.decision ≡ false → (past : List Event) → Later run past known → IsOrderly run past
       → is_recorded (known_of run past) number ≡ true → is_left (known_of run past) row ≡ true → ⊥
-  recorded-gone creates_none past later legal recorded left = gone_so (never_replaced creates_none) past later legal recorded left
+  recorded-gone creates_none past later orderly recorded left = gone_so (never_replaced creates_none) past later orderly recorded left
 
   -- it was not deleted or dropped, if the goal is not one that is deleted first
   kept_there : ((past : List Event) → Later run past known → is_replaced (known_of run past) row ≡ false) → is_delete_first one.decision ≡ false
-      → IsLegal run spelling history → has_number (removed_of history) row ≡ false
-  kept_there unreplaced deletes_none legal = by (has_number (removed_of history) row) refl
+      → IsOrderly run history → has_number (removed_of history) row ≡ false
+  kept_there unreplaced deletes_none orderly = by (has_number (removed_of history) row) refl
     where
       by : (b : Bool) → has_number (removed_of history) row ≡ b → b ≡ false
       by false is = refl
       by true is =
-          let was = removed-removable run spelling row history legal is in
-          absurd (not_doomed unreplaced deletes_none was.past (was.later known (later-now run history)) was.legal
+          let was = removed-removable run row history orderly is in
+          absurd (not_doomed unreplaced deletes_none was.past (was.later known (later-now run history)) was.orderly
           (removable-parts (known_of run was.past) row was.removable).doomed)
 
   -- ---- the claim of a goal that is not recorded
 
-  module _ (legal : IsLegal run spelling history) (missing : is_recorded known number ≡ false) where
+  module _ (orderly : IsOrderly run history) (missing : is_recorded known number ≡ false) where
     -- it is not marked
     pub unrecorded-unmarked : is_marked known row ≡ false
     unrecorded-unmarked = unmarked_so (unrecorded_kept missing) history (later-now run history)
@@ -522,4 +527,4 @@ module _ (run : Fixed) (spelling : Spelling) (history : List Event) (number row 
             ap (λ (b : Bool). was_removed known row && not b) held ∙ and_none (was_removed known row)
         by false deletes_none =
             ap (λ (events : List Event). has_number (removed_of events) row && not (is_deleted_first known row)) (history_of run history)
-            ∙ ap (λ (b : Bool). b && not (is_deleted_first known row)) (kept_there (unrecorded_kept missing) deletes_none legal)
+            ∙ ap (λ (b : Bool). b && not (is_deleted_first known row)) (kept_there (unrecorded_kept missing) deletes_none orderly)

@@ -2,6 +2,7 @@
 use Rattle.std.proofs.Common.{◌≡◌, ℕ, ◌==◌, Bool, true, false, ◌&&◌, ◌||◌, List, [], ◌∷◌, Option, Some, None, is_some, refl, sym, ◌∙◌, ap, subst, inl, inr, option_map, option_and_then, if◌then◌else◌}
 use Rattle.std.specs.List.{cons_option, list_any}
 use Rattle.std.specs.Option.{option_or}
+use Rattle.pl_state.specs.Chain.{some_passes}
 use Rattle.pl_state.specs.declared.goal.Goal.{Goal}
 use Rattle.pl_state.specs.declared.goal.Diffed.{Diffed}
 use Rattle.pl_events.specs.declared.event.Event.{Event}
@@ -17,19 +18,23 @@ use Rattle.pl_events.specs.declared.reply.Reply.{Reply}
 use Rattle.pl_events.specs.declared.reply.Reply.TheVariants as reply
 use Rattle.pl_decide.specs.declared.problem.Problem.{Problem}
 use Rattle.pl_decide.specs.declared.problem.Problem.TheVariants as problem
-use Rattle.pl_model.specs.Run.{Fixed, Pairs, Spelling}
+use Rattle.pl_model.specs.declared.errand.Closed.{Closed}
+use Rattle.pl_model.specs.declared.errand.Errand.{Errand}
+use Rattle.pl_model.specs.declared.fixed.Fixed.{Fixed}
+use Rattle.pl_model.specs.Run.{Pairs}
 use Rattle.pl_model.specs.Asked.{call_of}
 use Rattle.pl_model.specs.Decisions.{checked_in, diffed_in}
 use Rattle.pl_model.specs.Due.{has_open}
 use Rattle.pl_model.specs.History.{known_of}
 use Rattle.pl_model.specs.Known.{Known, has_problem, is_recorded}
-use Rattle.pl_model.specs.Legal.{IsLegal, IsReplyTo, MayBeAnswered, MayHappen}
+use Rattle.pl_model.specs.Legal.{IsOrderly, MayBeAnswered, MayHappen}
 use Rattle.pl_model.specs.Problems.{own_problem, problem_of_closed, problem_of_reply, urn_of_subject}
 use Rattle.pl_model.specs.Recording.{goal_of_op, has_number, is_removed, is_thing, only_if, recorded_by_reply, recorded_of, removed_by_reply, removed_of, row_of_delete}
-use Rattle.pl_model.specs.Tickets.{Closed, Errand, answers_of, begun_of, closed_by, errand_at, has_configured, is_configured, is_configured_reply, reply_if, reply_to, same_op, says_configured, was_begun}
-use Rattle.pl_model_laws.specs.Quiet.{RepliesFit, tells_success, tells_trouble}
+use Rattle.pl_model.specs.Tickets.{answers_of, begun_of, closed_by, errand_at, has_configured, is_configured, is_configured_reply, reply_if, reply_to, same_op, says_configured, was_begun}
+use Rattle.pl_events.specs.Replies.{reply_fits, tells_success, tells_trouble}
 use Rattle.pl_model_laws.proofs.Among.{IsAmong, any_found, any_among, find_among}
 use Rattle.pl_model_laws.proofs.Growing.{answers_by, equal_numbers, or_true, recordings-stay, same_number}
+use Rattle.pl_model_laws.proofs.Lanes.{fit-success}
 use Rattle.pl_model_laws.proofs.Leaving.{removed_more}
 use Rattle.pl_model_laws.proofs.Subjects.{NamesGoal, MayName, IsNamed, begun-named}
 use Rattle.pl_model_laws.proofs.Once.{and_left, and_right, equal_ops, history_of}
@@ -102,30 +107,30 @@ pub record IsHeard (history : List Event) (ticket : ℕ) (said : Reply) : Type 0
   pub removed : (row : ℕ) → row_of_delete errand.op ≡ Some row → has_number (removed_of history) row ≡ true
   pub replied : is_some (reply_to (answers_of history) errand.op) ≡ true
 
-module _ (run : Fixed) (spelling : Spelling) (fit : RepliesFit spelling) where
+module _ (run : Fixed) where
   -- an answer that is no problem goes well
-  answer_well : (seat : ℕ) (past : List Event) (ticket : ℕ) (said : Reply) → IsLegal run spelling past
-      → MayBeAnswered spelling (known_of run past) seat ticket said
+  answer_well : (seat : ℕ) (past : List Event) (ticket : ℕ) (said : Reply) → IsOrderly run past
+      → MayBeAnswered (known_of run past) seat ticket said
       → own_problem (known_of run past) (Answered ticket said) ≡ None
       → (errand : Errand) × (errand_at past ticket ≡ Some errand) × GoesWell errand.op said
-  answer_well seat past ticket said legal may none =
+  answer_well seat past ticket said orderly may none =
       by (errand_at past ticket) refl
-      (subst (λ (events : List Event). IsReplyTo spelling ticket (option_map (λ errand. errand.op) (errand_at events ticket)) said)
-      (history_of run past) may.form)
+      (subst (λ (events : List Event). some_passes (λ errand. reply_fits (call_of errand.op) said) (errand_at events ticket) ≡ true)
+      (history_of run past) may.fits)
       (subst (λ (events : List Event). option_and_then (problem_of_closed (known_of run past)) (closed_by events (Answered ticket said)) ≡ None)
       (history_of run past) none)
     where
       by : (o : Option Errand) → errand_at past ticket ≡ o
-          → IsReplyTo spelling ticket (option_map (λ (errand : Errand). errand.op) o) said
+          → some_passes (λ errand. reply_fits (call_of errand.op) said) o ≡ true
           → option_and_then (problem_of_closed (known_of run past))
           (option_map (closed_with said) (option_map (λ (errand : Errand). errand.op) o)) ≡ None
           → (errand : Errand) × (errand_at past ticket ≡ Some errand) × GoesWell errand.op said
-      by None is form none = absurd form
+      by None is form none = absurd (let e : false ≡ true = form in cc)
       by (Some errand) is form none =
           let there = find_among (λ (one : Errand). one.ticket == ticket) (begun_of past) errand is in
-          let named : IsNamed (known_of run past) errand.op = begun-named run spelling past errand legal there.0 in
+          let named : IsNamed (known_of run past) errand.op = begun-named run past errand orderly there.0 in
           let success : tells_success (call_of errand.op) said ≡ true =
-          fit ticket (call_of errand.op) form.0 said form.2 (no_trouble (known_of run past) errand.op said named none) in (
+          fit-success (call_of errand.op) said form (no_trouble (known_of run past) errand.op said named none) in (
             errand,
             is,
             record {
@@ -135,11 +140,11 @@ module _ (run : Fixed) (spelling : Spelling) (fit : RepliesFit spelling) where
           )
 
   -- so it is heard
-  heard_answer : (seat : ℕ) (past : List Event) (ticket : ℕ) (said : Reply) → IsLegal run spelling past
-      → MayHappen spelling (known_of run past) seat (Answered ticket said)
+  heard_answer : (seat : ℕ) (past : List Event) (ticket : ℕ) (said : Reply) → IsOrderly run past
+      → MayHappen (known_of run past) seat (Answered ticket said)
       → own_problem (known_of run past) (Answered ticket said) ≡ None
       → IsHeard (record { seat = seat; what = Answered ticket said } ∷ past) ticket said
-  heard_answer seat past ticket said legal may none = heard (answer_well seat past ticket said legal may none)
+  heard_answer seat past ticket said orderly may none = heard (answer_well seat past ticket said orderly may none)
     where
       heard : (errand : Errand) × (errand_at past ticket ≡ Some errand) × GoesWell errand.op said
           → IsHeard (record { seat = seat; what = Answered ticket said } ∷ past) ticket said
@@ -167,13 +172,13 @@ module _ (run : Fixed) (spelling : Spelling) (fit : RepliesFit spelling) where
             ∙ either_there (reply_to (answers_of past) it.0.op) said;
       }
 
-  heard_before : (event : Event) (past : List Event) (ticket : ℕ) (said : Reply) → IsLegal run spelling (event ∷ past)
+  heard_before : (event : Event) (past : List Event) (ticket : ℕ) (said : Reply) → IsOrderly run (event ∷ past)
       → IsHeard past ticket said → IsHeard (event ∷ past) ticket said
-  heard_before event past ticket said legal it =
+  heard_before event past ticket said orderly it =
       let first = some_there (reply_to (answers_of past) it.errand.op) it.replied in
       record {
         errand = it.errand;
-        at = errand-stays run spelling event past ticket it.errand legal it.at;
+        at = errand-stays run event past ticket it.errand orderly it.at;
         well = it.well;
         recorded = λ number on. recordings-stay run event past number (it.recorded number on);
         removed = λ row on. removed_more run event past row (it.removed row on);
@@ -181,24 +186,24 @@ module _ (run : Fixed) (spelling : Spelling) (fit : RepliesFit spelling) where
             (answers_by (closed_by past event.what) (answers_of past) it.errand.op first.0 first.1);
       }
 
-  -- each reply is heard, in a legal history without a problem
-  pub heard : (history : List Event) (ticket : ℕ) (said : Reply) → IsLegal run spelling history
+  -- each reply is heard, in an orderly history without a problem
+  pub heard : (history : List Event) (ticket : ℕ) (said : Reply) → IsOrderly run history
       → has_problem (known_of run history) ≡ false → WasAnswered history ticket said → IsHeard history ticket said
-  heard [] ticket said legal calm given = absurd given
-  heard (event ∷ past) ticket said legal calm (inl is) =
+  heard [] ticket said orderly calm given = absurd given
+  heard (event ∷ past) ticket said orderly calm (inl is) =
       let before = calm-before run event past calm in
-      subst (λ (what : What). MayHappen spelling (known_of run past) event.seat what → own_problem (known_of run past) what ≡ None
+      subst (λ (what : What). MayHappen (known_of run past) event.seat what → own_problem (known_of run past) what ≡ None
       → IsHeard (record { seat = event.seat; what = what } ∷ past) ticket said) (sym is)
-      (heard_answer event.seat past ticket said legal.0) legal.1 before.1
-  heard (event ∷ past) ticket said legal calm (inr given) =
-      heard_before event past ticket said legal (heard past ticket said legal.0 (calm-before run event past calm).0 given)
+      (heard_answer event.seat past ticket said orderly.0) orderly.1 before.1
+  heard (event ∷ past) ticket said orderly calm (inr given) =
+      heard_before event past ticket said orderly (heard past ticket said orderly.0 (calm-before run event past calm).0 given)
 
-  replied_step : (seat : ℕ) (past : List Event) (what : What) (about : Op) (said : Reply) → IsLegal run spelling past
-      → MayHappen spelling (known_of run past) seat what → own_problem (known_of run past) what ≡ None
+  replied_step : (seat : ℕ) (past : List Event) (what : What) (about : Op) (said : Reply) → IsOrderly run past
+      → MayHappen (known_of run past) seat what → own_problem (known_of run past) what ≡ None
       → ((other : Reply) → reply_to (answers_of past) about ≡ Some other → GoesWell about other)
       → reply_to (cons_option (closed_by past what) (answers_of past)) about ≡ Some said → GoesWell about said
-  replied_step seat past (Answered ticket given) about said legal may none rest h =
-      new (answer_well seat past ticket given legal may none)
+  replied_step seat past (Answered ticket given) about said orderly may none rest h =
+      new (answer_well seat past ticket given orderly may none)
     where
       new : (errand : Errand) × (errand_at past ticket ≡ Some errand) × GoesWell errand.op given → GoesWell about said
       new it =
@@ -213,16 +218,16 @@ module _ (run : Fixed) (spelling : Spelling) (fit : RepliesFit spelling) where
               subst (λ (one : Op). GoesWell one said) (equal_ops it.0.op about same)
               (subst (λ (reply : Reply). GoesWell it.0.op reply) (some_same given said h) it.2)
           by None is false same h = absurd (let e : None ≡ Some said = h in cc)
-  replied_step seat past _ about said legal may none rest h = rest said h
+  replied_step seat past _ about said orderly may none rest h = rest said h
 
   -- each operation that was replied to went well
-  pub replied-well : (history : List Event) (about : Op) (said : Reply) → IsLegal run spelling history
+  pub replied-well : (history : List Event) (about : Op) (said : Reply) → IsOrderly run history
       → has_problem (known_of run history) ≡ false → reply_to (answers_of history) about ≡ Some said → GoesWell about said
-  replied-well [] about said legal calm h = absurd (let e : None ≡ Some said = h in cc)
-  replied-well (event ∷ past) about said legal calm h =
+  replied-well [] about said orderly calm h = absurd (let e : None ≡ Some said = h in cc)
+  replied-well (event ∷ past) about said orderly calm h =
       let before = calm-before run event past calm in
-      replied_step event.seat past event.what about said legal.0 legal.1 before.1
-      (λ other was. replied-well past about other legal.0 before.0 was) h
+      replied_step event.seat past event.what about said orderly.0 orderly.1 before.1
+      (λ other was. replied-well past about other orderly.0 before.0 was) h
 
 -- ---- once no ticket is open
 
@@ -241,16 +246,16 @@ configured_is : (provider : Source) (said : Reply) → tells_success (call_of (o
 configured_is provider reply.Configured h = refl
 configured_is provider _ h = absurd (let e : false ≡ true = h in cc)
 
-module _ (run : Fixed) (spelling : Spelling) (fit : RepliesFit spelling) (history : List Event)
-    (legal : IsLegal run spelling history) (calm : has_problem (known_of run history) ≡ false)
+module _ (run : Fixed) (history : List Event)
+    (orderly : IsOrderly run history) (calm : has_problem (known_of run history) ≡ false)
     (closed : has_open (known_of run history) ≡ false) where
   -- each errand was answered well
   pub answered-well : (errand : Errand) → IsAmong errand (begun_of history)
       → (said : Reply) × WasAnswered history errand.ticket said × (tells_success (call_of errand.op) said ≡ true)
   answered-well errand there =
-      let one = closed_answered run spelling history errand.ticket legal calm (closed_errand run history closed errand there) in
-      let it = heard run spelling fit history errand.ticket one.0 legal calm one.1 in
-      let same : it.errand ≡ errand = some_same it.errand errand (sym it.at ∙ errand-own run spelling history errand legal there) in
+      let one = closed_answered run history errand.ticket orderly calm (closed_errand run history closed errand there) in
+      let it = heard run history errand.ticket one.0 orderly calm one.1 in
+      let same : it.errand ≡ errand = some_same it.errand errand (sym it.at ∙ errand-own run history errand orderly there) in
       (one.0, one.1, subst (λ (other : Errand). tells_success (call_of other.op) one.0 ≡ true) same it.well.success)
 
   -- an operation that was begun was answered, and this is what came of it
@@ -258,9 +263,9 @@ module _ (run : Fixed) (spelling : Spelling) (fit : RepliesFit spelling) (histor
       → (ticket : ℕ) × (said : Reply) × (it : IsHeard history ticket said) × (it.errand.op ≡ about)
   begun_heard about begun =
       let one = any_found (λ errand. same_op errand.op about) (begun_of history) begun in
-      let given = closed_answered run spelling history one.0.ticket legal calm (closed_errand run history closed one.0 one.1) in
-      let it = heard run spelling fit history one.0.ticket given.0 legal calm given.1 in
-      let same : it.errand ≡ one.0 = some_same it.errand one.0 (sym it.at ∙ errand-own run spelling history one.0 legal one.1) in
+      let given = closed_answered run history one.0.ticket orderly calm (closed_errand run history closed one.0 one.1) in
+      let it = heard run history one.0.ticket given.0 orderly calm given.1 in
+      let same : it.errand ≡ one.0 = some_same it.errand one.0 (sym it.at ∙ errand-own run history one.0 orderly one.1) in
       (one.0.ticket, given.0, it, ap (λ (errand : Errand). errand.op) same ∙ equal_ops one.0.op about one.2)
 
   -- the reply to an operation that was begun came and tells of success
@@ -273,7 +278,7 @@ module _ (run : Fixed) (spelling : Spelling) (fit : RepliesFit spelling) (histor
         there.0,
         ap (λ (answers : List Closed). reply_to answers about) (answers_as run history)
             ∙ ap (λ (events : List Event). reply_to (answers_of events) about) (history_of run history) ∙ there.1,
-        (replied-well run spelling fit history about there.0 legal calm there.1).success,
+        (replied-well run history about there.0 orderly calm there.1).success,
       )
 
   -- the goal that an operation makes, changes or reads is recorded
@@ -324,14 +329,14 @@ diff_told : (said : Reply) → tells_success call.Diff said ≡ true → (diff :
 diff_told (reply.Diffed diff) h = (diff, refl)
 diff_told _ h = absurd (let e : false ≡ true = h in cc)
 
-module _ (run : Fixed) (spelling : Spelling) (fit : RepliesFit spelling) (history : List Event)
-    (legal : IsLegal run spelling history) (calm : has_problem (known_of run history) ≡ false)
+module _ (run : Fixed) (history : List Event)
+    (orderly : IsOrderly run history) (calm : has_problem (known_of run history) ≡ false)
     (closed : has_open (known_of run history) ≡ false) (on : Subject) where
   -- the checked inputs came
   pub check-came : was_begun history (op.Check on) ≡ true
       → (fields : Pairs) × (checked_in (reply_to (known_of run history).answers (op.Check on)) ≡ Some fields)
   check-came begun =
-      let one = reply-came run spelling fit history legal calm closed (op.Check on) begun in
+      let one = reply-came run history orderly calm closed (op.Check on) begun in
       let told = checked_told one.0 one.2 in
       (told.0, ap (λ (o : Option Reply). checked_in o) one.1 ∙ told.1)
 
@@ -339,7 +344,7 @@ module _ (run : Fixed) (spelling : Spelling) (fit : RepliesFit spelling) (histor
   pub config-came : was_begun history (op.CheckConfig on) ≡ true
       → (fields : Pairs) × (checked_in (reply_to (known_of run history).answers (op.CheckConfig on)) ≡ Some fields)
   config-came begun =
-      let one = reply-came run spelling fit history legal calm closed (op.CheckConfig on) begun in
+      let one = reply-came run history orderly calm closed (op.CheckConfig on) begun in
       let told = config_told one.0 one.2 in
       (told.0, ap (λ (o : Option Reply). checked_in o) one.1 ∙ told.1)
 
@@ -347,6 +352,6 @@ module _ (run : Fixed) (spelling : Spelling) (fit : RepliesFit spelling) (histor
   pub diff-came : was_begun history (op.Diff on) ≡ true
       → (diff : Diffed) × (diffed_in (reply_to (known_of run history).answers (op.Diff on)) ≡ Some diff)
   diff-came begun =
-      let one = reply-came run spelling fit history legal calm closed (op.Diff on) begun in
+      let one = reply-came run history orderly calm closed (op.Diff on) begun in
       let told = diff_told one.0 one.2 in
       (told.0, ap (λ (o : Option Reply). diffed_in o) one.1 ∙ told.1)

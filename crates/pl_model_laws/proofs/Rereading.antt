@@ -4,25 +4,25 @@ use Rattle.std.proofs.lemmas.Option.{slice_get_within}
 use Rattle.std.specs.List.{list_any}
 use Rattle.std.specs.Option.{option_or}
 use Rattle.pl_state.specs.Chain.{provider_row_of}
-use Rattle.pl_state.specs.Sound.{IsSound}
+use Rattle.pl_sound.specs.Sound.{IsSound}
 use Rattle.pl_state.specs.declared.entry.Entry.{Entry}
 use Rattle.pl_events.specs.declared.event.Event.{Event}
 use Rattle.pl_events.specs.declared.operation.Op.TheVariants as op
 use Rattle.pl_events.specs.declared.operation.Subject.TheVariants as subject
-use Rattle.pl_model.specs.Run.{Fixed, HasNames, Spelling, has_host, is_refresh, rows_of}
+use Rattle.pl_model.specs.declared.fixed.Fixed.{Fixed}
+use Rattle.pl_model.specs.Run.{HasNames, has_host, is_refresh, rows_of}
 use Rattle.pl_model.specs.declared.mode.Mode.{Mode}
 use Rattle.pl_model.specs.declared.mode.Mode.TheVariants.{Refresh}
 use Rattle.pl_model.specs.Due.{IsQuiet, checks_of, deletes_of, is_wanted_op, operations_of, reads_of, sends_of, was_read}
 use Rattle.pl_model.specs.History.{known_of}
 use Rattle.pl_model.specs.Known.{Known, has_problem, is_over, known_by}
-use Rattle.pl_model.specs.Legal.{IsLegal}
+use Rattle.pl_model.specs.Legal.{IsOrderly}
 use Rattle.pl_decide.specs.declared.problem.Problem.TheVariants.{MissingProvider}
 use Rattle.pl_events.specs.declared.reply.Reply.{Reply}
 use Rattle.pl_model.specs.Claims.{first_some}
 use Rattle.pl_model.specs.Problems.{at_position, end_problems, is_to_read, names_none, refresh_problems, unread_row}
 use Rattle.pl_model.specs.Rows.{row_at, row_numbers, source_of_provider, source_of_row}
 use Rattle.pl_model.specs.Tickets.{same_op, was_begun}
-use Rattle.pl_model_laws.specs.Quiet.{RepliesFit}
 use Rattle.pl_model_laws.proofs.Calm.{append_none, calm-before, first_none, map_none, no_problems, option_list_none}
 use Rattle.pl_model_laws.proofs.Growing.{run_of, same_number}
 use Rattle.pl_model_laws.proofs.Once.{history_of}
@@ -80,8 +80,8 @@ read_listed known row low =
     (range_any (λ place. same_op (op.Read (subject.Row row)) (op.Read (subject.Row place))) 0 (length (rows_of known.run)) row
     (omega arith) (omega arith) (same_number row))))))
 
-module _ (run : Fixed) (spelling : Spelling) (history : List Event) (anew : is_refresh run.mode ≡ true) (some : 0 < run.parallel)
-    (fit : RepliesFit spelling) (sound : IsSound (rows_of run)) (legal : IsLegal run spelling history)
+module _ (run : Fixed) (history : List Event) (anew : is_refresh run.mode ≡ true) (some : 0 < run.parallel)
+    (sound : IsSound (rows_of run)) (orderly : IsOrderly run history)
     (calm : has_problem (known_of run history) ≡ false) (quiet : IsQuiet (known_of run history)) (row : ℕ) (entry : Entry)
     (stands : row_at (known_of run history) row ≡ Some entry) (reads : is_to_read entry ≡ true) where
   abbrev known : Known
@@ -108,8 +108,8 @@ module _ (run : Fixed) (spelling : Spelling) (history : List Event) (anew : is_r
       let mode : is_refresh known.run.mode ≡ true = ap (λ (fixed : Fixed). is_refresh fixed.mode) (run_of run history) ∙ anew in
       let wants : is_wanted_op known (op.Read (subject.Row row)) ≡ true = rw never (rw mode (rw stands reads)) in
       let low : row < length (rows_of known.run) = slice_get_within (rows_of known.run) row entry stands in
-      lanes-serve run spelling fit history legal calm quiet (no_host run anew) some (op.Read (subject.Row row)) (source_of_provider known own.0) from wants (read_listed known row low))
+      lanes-serve run history orderly calm quiet (no_host run anew) some (op.Read (subject.Row row)) (source_of_provider known own.0) from wants (read_listed known row low))
 
   pub row-read : was_read known row ≡ true
-  row-read = let came = reply-came run spelling fit history legal calm quiet.closed (op.Read (subject.Row row)) begun in
+  row-read = let came = reply-came run history orderly calm quiet.closed (op.Read (subject.Row row)) begun in
       ap (λ (o : Option Reply). is_some o) came.1

@@ -12,16 +12,18 @@ use Rattle.pl_events.specs.declared.operation.Source.{Source}
 use Rattle.pl_events.specs.declared.operation.Source.TheVariants as source
 use Rattle.pl_events.specs.declared.operation.Subject.TheVariants as subject
 use Rattle.pl_events.specs.declared.reply.Reply.{Reply}
-use Rattle.pl_model.specs.Run.{Fixed, HasNames, Pairs, Spelling, is_preview}
-use Rattle.pl_model.specs.Tickets.{Closed, answers_of, is_coming, is_configured, is_free, is_lost, is_out, is_source, lane_count, lane_free, lane_source, lanes_from, reply_to, same_op, was_begun, was_configured}
-use Rattle.pl_model.specs.Claims.{Decided}
+use Rattle.pl_model.specs.declared.decided.Decided.{Decided}
+use Rattle.pl_model.specs.declared.errand.Closed.{Closed}
+use Rattle.pl_model.specs.declared.fixed.Fixed.{Fixed}
+use Rattle.pl_model.specs.declared.work.Work.TheVariants.{Send as to_send}
+use Rattle.pl_model.specs.Run.{HasNames, Pairs, is_preview}
+use Rattle.pl_model.specs.Tickets.{answers_of, is_coming, is_configured, is_free, is_lost, is_out, is_source, lane_count, lane_free, lane_source, lanes_from, reply_to, same_op, was_begun, was_configured}
 use Rattle.pl_model.specs.Decisions.{checked_in}
-use Rattle.pl_model.specs.Due.{IsQuiet, is_asked, is_checked_lane, is_lane_of, is_next_lane, is_ready_on, is_ready_op, is_wanted_op, may_configure, operations_of, passes_limit, source_of_op, to_send, wants_lane}
+use Rattle.pl_model.specs.Due.{IsQuiet, is_asked, is_checked_lane, is_lane_of, is_next_lane, is_ready_on, is_ready_op, is_wanted_op, may_configure, operations_of, passes_limit, source_of_op, wants_lane}
 use Rattle.pl_model.specs.History.{known_of}
 use Rattle.pl_model.specs.Known.{Known, decided_goal, goal_at, has_problem, is_recorded}
-use Rattle.pl_model.specs.Legal.{IsLegal}
+use Rattle.pl_model.specs.Legal.{IsOrderly}
 use Rattle.pl_model.specs.Rows.{source_of_goal}
-use Rattle.pl_model_laws.specs.Quiet.{RepliesFit}
 use Rattle.pl_model_laws.proofs.Configuring.{checked-paired, replied-begun}
 use Rattle.pl_model_laws.proofs.Growing.{numbered_below, run_of, same_number}
 use Rattle.pl_model_laws.proofs.Lanes.{begun-on, lane-begins, lane-sourced, lanes-each, lanes-have, on_begun, on_counted, source-begun, was_begun_on}
@@ -63,7 +65,7 @@ added_some known (op.Create about) h = tt
 added_some known (op.Read (subject.Goal number)) h = tt
 added_some known _ h = let e : false ≡ true = h in cc
 
-module _ (run : Fixed) (spelling : Spelling) (fit : RepliesFit spelling) (history : List Event) (legal : IsLegal run spelling history)
+module _ (run : Fixed) (history : List Event) (orderly : IsOrderly run history)
     (calm : has_problem (known_of run history) ≡ false) (quiet : IsQuiet (known_of run history)) where
   abbrev known : Known
   known = known_of run history
@@ -73,7 +75,7 @@ module _ (run : Fixed) (spelling : Spelling) (fit : RepliesFit spelling) (histor
   not_out lane = ap (λ (b : Bool). not b) (none-out run history quiet.closed lane)
 
   not_lost : (lane : ℕ) → not (is_lost history lane) ≡ true
-  not_lost lane = ap (λ (b : Bool). not b) (none-lost run spelling history legal calm lane)
+  not_lost lane = ap (λ (b : Bool). not b) (none-lost run history orderly calm lane)
 
   -- a lane on which something was begun is one of those that are counted
   counted : (lane : ℕ) (about : Op) → was_begun_on history lane about ≡ true → lane ≤ lane_count known.history
@@ -99,14 +101,14 @@ module _ (run : Fixed) (spelling : Spelling) (fit : RepliesFit spelling) (histor
     where
       came : some_passes (may_configure known) (checked_in (reply_to known.answers (op.CheckConfig (subject.Goal number)))) ≡ true
       came =
-          let fields = config-came run spelling fit history legal calm quiet.closed (subject.Goal number)
+          let fields = config-came run history orderly calm quiet.closed (subject.Goal number)
           (on_begun history lane (op.CheckConfig (subject.Goal number)) checked) in
           ap (λ (o : Option Pairs). some_passes (may_configure known) o) fields.1 ∙ may fields.0 fields.1
 
       sourced : is_source (lane_source history lane) (source.Goal number) ≡ true
       sourced =
           ap (λ (o : Option Source). is_source o (source.Goal number))
-          (lane-sourced run spelling history lane (op.CheckConfig (subject.Goal number)) (source.Goal number) legal checked refl)
+          (lane-sourced run history lane (op.CheckConfig (subject.Goal number)) (source.Goal number) orderly checked refl)
           ∙ same_source_self (source.Goal number)
 
   -- so it is configured
@@ -121,8 +123,8 @@ module _ (run : Fixed) (spelling : Spelling) (fit : RepliesFit spelling) (histor
 
       by : (b : Bool) → was_begun history (op.Configure (source.Goal number)) ≡ b → is_configured history lane ≡ true
       by true begun =
-          lane-configured run spelling fit history legal calm quiet.closed lane (source.Goal number)
-          (checked-paired run spelling fit history number lane legal checked begun)
+          lane-configured run history orderly calm quiet.closed lane (source.Goal number)
+          (checked-paired run history number lane orderly checked begun)
       by false new =
           absurd (never_both (is_ready_on known (op.Configure (source.Goal number)) lane) (ready new)
           (lane-unready known (op.Configure (source.Goal number)) lane (no-configure known quiet number low)
@@ -146,13 +148,13 @@ module _ (run : Fixed) (spelling : Spelling) (fit : RepliesFit spelling) (histor
       by : (b : Bool) → is_preview known.run.mode ≡ b → (not (b && any_field_unknown fields)) ≡ true
       by false is = refl
       by true is =
-          let held = recorded-held run spelling history number legal recorded in
+          let held = recorded-held run history number orderly recorded in
           let there = some_there (reply_to known.answers (op.CheckConfig (subject.Goal number))) (said_there _ fields told) in
           let begun : was_begun history (op.CheckConfig (subject.Goal number)) ≡ true =
           replied-begun history (op.CheckConfig (subject.Goal number)) there.0
           (sym (ap (λ (answers : List Closed). reply_to answers (op.CheckConfig (subject.Goal number))) (answers_as run history)
           ∙ ap (λ (events : List Event). reply_to (answers_of events) (op.CheckConfig (subject.Goal number))) (history_of run history)) ∙ there.1) in
-          let own = check-provider run spelling number history legal begun in
+          let own = check-provider run number history orderly begun in
           let same : held.1.checked ≡ fields =
           provider-checked run history number own.0 held.1 fields own.1 own.2 held.2.decided told in
           let known_inputs : some_passes (λ one. any_field_unknown one.checked) (decided_goal known number) ≡ false =
@@ -167,13 +169,13 @@ module _ (run : Fixed) (spelling : Spelling) (fit : RepliesFit spelling) (histor
   provider-configured real number begun low =
       let on = begun-on history (op.CheckConfig (subject.Goal number)) begun in
       lanes-have history (source.Goal number) (is_configured history) on.0
-      (lane-sourced run spelling history on.0 (op.CheckConfig (subject.Goal number)) (source.Goal number) legal on.1 refl)
+      (lane-sourced run history on.0 (op.CheckConfig (subject.Goal number)) (source.Goal number) orderly on.1 refl)
       (config_configured number on.0 (may_really real number) low on.1)
 
   -- a recorded goal is one of the goals
   recorded_low : (number : ℕ) → is_recorded known number ≡ true → number < length known.goals
   recorded_low number h =
-      let there = recorded-held run spelling history number legal h in numbered_below known.goals number there.0 there.2.stands
+      let there = recorded-held run history number orderly h in numbered_below known.goals number there.0 there.2.stands
 
   -- each lane of a provider that is there is free, where it may be configured
   lane_is_free : (lane : ℕ) (wanted : Source) → ((number : ℕ) → wanted ≡ source.Goal number → MayConfigure number) → IsSourceThere known wanted → lane_source history lane ≡ Some wanted
@@ -183,7 +185,7 @@ module _ (run : Fixed) (spelling : Spelling) (fit : RepliesFit spelling) (histor
       by : (was_begun_on history lane (op.Configure wanted) ≡ true)
           ⊎ ((number : ℕ) × (wanted ≡ source.Goal number) × (was_begun_on history lane (op.CheckConfig (subject.Goal number)) ≡ true))
           → is_configured history lane ≡ true
-      by (inl h) = lane-configured run spelling fit history legal calm quiet.closed lane wanted h
+      by (inl h) = lane-configured run history orderly calm quiet.closed lane wanted h
       by (inr h) =
           config_configured h.0 lane (may h.0 h.1) (recorded_low h.0 (subst (λ (own : Source). IsSourceThere known own) h.1 there)) h.2
 
@@ -289,11 +291,11 @@ module _ (run : Fixed) (spelling : Spelling) (fit : RepliesFit spelling) (histor
         goal_lane n from =
             let (goal, m, stands, provider, same) = provider_of n from in
             let here : is_recorded known m ≡ true = subst (λ (one : Source). IsSourceThere known one) same there in
-            let held = recorded-held run spelling history m legal here in
+            let held = recorded-held run history m orderly here in
             let begun = config_begun run history m held.0 held.1 held.2.stands held.2.decided
-            (providers-provide run spelling history names legal n m goal held.0 stands provider held.2.stands) in
+            (providers-provide run history names orderly n m goal held.0 stands provider held.2.stands) in
             let on = begun-on history (op.CheckConfig (subject.Goal m)) begun in
-            no_lane on.0 (lane-sourced run spelling history on.0 (op.CheckConfig (subject.Goal m)) (source.Goal m) legal on.1 refl
+            no_lane on.0 (lane-sourced run history on.0 (op.CheckConfig (subject.Goal m)) (source.Goal m) orderly on.1 refl
             ∙ ap (λ (one : Source). Some one) (sym same))
 
         by : (it : Op) → about ≡ it → AddsOne it → ⊥

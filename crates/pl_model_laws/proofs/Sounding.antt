@@ -7,7 +7,7 @@ use Rattle.std.proofs.lemmas.Option.{get_or_from_slice_get, slice_get-get_or, sl
 use Rattle.std.proofs.lemmas.Slice.Eq.{bytes_eq-Decides}
 use Rattle.std.specs.List.{list_any}
 use Rattle.pl_state.specs.References.{has_urn, keeps_urn, refs}
-use Rattle.pl_state.specs.Sound.{IsSound, fault_at, first_unmet, is_met, own_wants, wants}
+use Rattle.pl_sound.specs.Sound.{IsSound, fault_at, first_unmet, is_met, own_wants, wants}
 use Rattle.pl_state.specs.declared.entry.Entry.{Entry}
 use Rattle.pl_state.specs.declared.fault.Missing.{Missing}
 use Rattle.pl_state.specs.declared.fault.Missing.TheVariants.{Twice}

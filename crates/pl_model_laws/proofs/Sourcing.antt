@@ -20,8 +20,10 @@ use Rattle.pl_model.specs.Tickets.{is_coming, is_source, lane_free, lanes_from, 
 use Rattle.pl_model.specs.Recording.{only_if}
 use Rattle.pl_model.specs.Claims.{claimer_of, numbered}
 use Rattle.pl_model.specs.Decisions.{Turn, checked_at, is_provider_unknown, needs_check, number_at, wants_diff}
-use Rattle.pl_model.specs.Due.{asks_check, asks_diff, checks_of, deletes_of, for_decided, goal_numbers, imports_read, invokes_of, is_asked, is_invoke, is_placed, is_unsent, is_wanted_op, op_of_goal, operations_of, passes_limit, pending_numbers, provider_recorded, reads_of, request_numbers, sends_goal, sends_of, source_of_op, to_send, wants_lane, way_is_free}
-use Rattle.pl_model.specs.Known.{Asked, Known, asked_at, goal_at, is_recorded, next_turn}
+use Rattle.pl_model.specs.declared.heard.Heard.{Heard}
+use Rattle.pl_model.specs.declared.work.Work.TheVariants.{Send as to_send}
+use Rattle.pl_model.specs.Due.{asks_check, asks_diff, checks_of, deletes_of, for_decided, goal_numbers, imports_read, invokes_of, is_asked, is_invoke, is_placed, is_unsent, is_wanted_op, op_of_goal, operations_of, passes_limit, pending_numbers, provider_recorded, reads_of, request_numbers, sends_goal, sends_of, source_of_op, wants_lane, way_is_free}
+use Rattle.pl_model.specs.Known.{Known, asked_at, goal_at, is_recorded, next_turn}
 use Rattle.pl_model.specs.Rows.{pending_at, row_numbers, source_by, source_of_goal, source_of_pending, source_of_provider, source_of_row}
 use Rattle.pl_model_laws.proofs.Growing.{equal_numbers}
 use Rattle.pl_model_laws.proofs.Lanes.{each_any, source_is}
@@ -160,14 +162,14 @@ module _ (known : Known) where
   invoked (Outputs n urn outputs) about h = absurd (let e : false ≡ true = h in cc)
 
   invoke_source : (n : ℕ) → some_passes (λ asked. is_invoke known asked.request asked.about) (asked_at known n) ≡ true
-      → (wanted : Source) → option_map source.Goal (option_and_then (λ (asked : Asked). asked.about) (asked_at known n)) ≡ Some wanted
+      → (wanted : Source) → option_map source.Goal (option_and_then (λ (asked : Heard). asked.about) (asked_at known n)) ≡ Some wanted
       → IsSourceThere known wanted
   invoke_source n h wanted is =
       let asked = passes_some (λ asked. is_invoke known asked.request asked.about) (asked_at known n) h in
       let about = passes_some (is_recorded known) asked.0.about (invoked asked.0.request asked.0.about asked.2) in
       let same : Some (source.Goal about.0) ≡ Some wanted =
       ap (λ (o : Option ℕ). option_map source.Goal o) (sym about.1)
-      ∙ ap (λ (o : Option Asked). option_map source.Goal (option_and_then (λ (one : Asked). one.about) o)) (sym asked.1) ∙ is in
+      ∙ ap (λ (o : Option Heard). option_map source.Goal (option_and_then (λ (one : Heard). one.about) o)) (sym asked.1) ∙ is in
       subst (λ (one : Source). IsSourceThere known one) (some_same (source.Goal about.0) wanted same) about.2
 
   -- the provider of an operation that is asked is there, unless its inputs are to be checked

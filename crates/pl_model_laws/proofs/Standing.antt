@@ -16,19 +16,21 @@ use Rattle.pl_events.specs.declared.operation.Op.{Op}
 use Rattle.pl_events.specs.declared.reply.Reply.{Reply}
 use Rattle.pl_events.specs.declared.reply.Reply.TheVariants as reply
 use Rattle.pl_decide.specs.Table.{decide}
-use Rattle.pl_decide.specs.declared.decision.Decision.{Decision}
 use Rattle.pl_decide.specs.declared.decision.Decision.TheVariants as decision
 use Rattle.pl_decide.specs.declared.decision.ProviderChange.{ProviderChange}
-use Rattle.pl_decide.specs.declared.problem.Problem.{Problem}
-use Rattle.pl_model.specs.Run.{Fixed, Pairs}
-use Rattle.pl_model.specs.Tickets.{Closed, answers_of, op_at}
+use Rattle.pl_model.specs.declared.decided.Decided.{Decided}
+use Rattle.pl_model.specs.declared.errand.Closed.{Closed}
+use Rattle.pl_model.specs.declared.fixed.Fixed.{Fixed}
+use Rattle.pl_model.specs.Run.{Pairs}
+use Rattle.pl_model.specs.Tickets.{answers_of, op_at}
 use Rattle.pl_model.specs.Recording.{has_number, is_thing, goal_of_op, only_if, recorded_by, recorded_by_reply, recorded_of}
-use Rattle.pl_model.specs.Claims.{Decided, claimed_row, id_of_row, numbered}
-use Rattle.pl_model.specs.Decisions.{Turn, number_at, turn_in, turn_of, chain_refusal, change_at, checked_at, claim_at, decided_at, decided_by, decided_next, decided_of, decision_at, diff_at, final_decision, is_refused, limit_refusal, refused_by}
+use Rattle.pl_model.specs.Claims.{claimed_row, id_of_row, numbered}
+use Rattle.pl_model.specs.Decisions.{Turn, number_at, turn_in, turn_of, change_at, checked_at, claim_at, decided_at, decided_by, decided_next, decided_of, decision_at, diff_at}
 use Rattle.pl_model.specs.Claims.{kept_provider_id}
 use Rattle.pl_model.specs.Entries.{Result, entry_of, goal_entry, numbers_in, recorded_entry, recording_of, reference_to, result_answered, result_by, result_from, result_of_keep, result_of_reply, told_outputs, with_outputs, is_keep, is_update, kept_changed, kept_new, kept_planned, kept_same}
 use Rattle.pl_model.specs.History.{known_of}
 use Rattle.pl_model.specs.Known.{Known, claim_of, decided_goal, goal_at, is_recorded, next_turn, turn_of_goal}
+use Rattle.pl_model_laws.proofs.Claiming.{final_fails}
 use Rattle.pl_model_laws.proofs.Growing.{equal_numbers, numbered_below, or_true, decided_as}
 
 -- a choice of something and nothing
@@ -296,15 +298,6 @@ table_not_keep goal change checked diff = by (is_reading_goal goal) (is_importin
     by false true = refl
     by false false = refl
 
--- nor does what the chain and the limits say to it
-final_not_keep : (turn : Turn) (choice : Decision) → is_keep choice ≡ false → is_keep (final_decision turn choice) ≡ false
-final_not_keep turn choice h = by (is_refused choice) (option_or (chain_refusal turn choice) (limit_refusal turn choice))
-  where
-    by : (b : Bool) (o : Option Problem) → is_keep (if b then choice else refused_by o choice) ≡ false
-    by true o = h
-    by false None = h
-    by false (Some problem) = refl
-
 -- what is decided to be kept is kept over a row
 abbrev pub KeepsClaim : Fixed → Decided → Type 0
 KeepsClaim run one = is_keep one.decision ≡ true → is_some (claimed_row run one.claim) ≡ true
@@ -317,7 +310,7 @@ decided_keeps turn checked diff h = by (claim_at turn) refl
     by (Some row) is = ap (λ (o : Option Entry). is_some o) is
     by None is =
         let none : is_keep (decision_at turn checked diff) ≡ false =
-        final_not_keep turn (decide (claim_at turn) turn.goal (change_at turn) checked diff)
+        final_fails is_keep turn (decide (claim_at turn) turn.goal (change_at turn) checked diff) (λ problem. refl)
         (ap (λ (o : Option Entry). is_keep (decide o turn.goal (change_at turn) checked diff)) is
         ∙ table_not_keep turn.goal (change_at turn) checked diff) in
         absurd (let e : true ≡ false = sym h ∙ none in cc)

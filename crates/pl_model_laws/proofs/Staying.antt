@@ -25,12 +25,17 @@ use Rattle.pl_events.specs.declared.operation.Subject.TheVariants as subject
 use Rattle.pl_events.specs.declared.reply.Reply.{Reply}
 use Rattle.pl_decide.specs.declared.problem.Problem.{Problem}
 use Rattle.pl_decide.specs.declared.problem.Problem.TheVariants.{DuplicateUrn}
-use Rattle.pl_model.specs.Run.{Fixed, is_preview}
-use Rattle.pl_model.specs.Tickets.{Errand, begun_of, errand_at, same_op, same_source, same_subject, was_begun}
+use Rattle.pl_model.specs.declared.decided.Decided.{Decided}
+use Rattle.pl_model.specs.declared.errand.Errand.{Errand}
+use Rattle.pl_model.specs.declared.fixed.Fixed.{Fixed}
+use Rattle.pl_model.specs.declared.heard.Fate.{Fate}
+use Rattle.pl_model.specs.declared.heard.Fate.TheVariants.{Accepted as accepted, Halted as halted, Refused as refused}
+use Rattle.pl_model.specs.Run.{is_preview}
+use Rattle.pl_model.specs.Tickets.{begun_of, errand_at, same_op, same_source, same_subject, was_begun}
 use Rattle.pl_model.specs.Recording.{goal_of_op, has_number, is_thing, only_if, recorded_by, recorded_by_reply, recorded_of}
-use Rattle.pl_model.specs.Claims.{Decided, goal_number}
+use Rattle.pl_model.specs.Claims.{goal_number}
 use Rattle.pl_model.specs.History.{goals_after, known_of}
-use Rattle.pl_model.specs.Known.{Fate, halted, refused, accepted, Known, decided_goal, goal_at, has_problem, is_recorded}
+use Rattle.pl_model.specs.Known.{Known, decided_goal, goal_at, has_problem, is_recorded}
 use Rattle.pl_model.specs.Requests.{default_goal, default_urn, fate_by, fate_of, goals_by, goals_made, has_goal, invoked_version, named_provider, refusal_of, refused_if, result_refusal, uses_default, with_default, with_goal, with_invoked, with_provider, with_result}
 use Rattle.pl_model.specs.Due.{has_unknown_provider, is_reading, is_recorded_urn, none_or, op_of_decision, op_of_goal, references_recorded}
 use Rattle.pl_model_laws.specs.Laws.{is_configure}

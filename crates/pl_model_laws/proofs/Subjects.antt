@@ -8,14 +8,18 @@ use Rattle.pl_events.specs.declared.operation.Op.{Op}
 use Rattle.pl_events.specs.declared.operation.Op.TheVariants as op
 use Rattle.pl_events.specs.declared.operation.Subject.{Subject}
 use Rattle.pl_events.specs.declared.operation.Subject.TheVariants as subject
-use Rattle.pl_model.specs.Run.{Fixed, Spelling}
-use Rattle.pl_model.specs.Claims.{Decided, numbered}
+use Rattle.pl_model.specs.declared.decided.Decided.{Decided}
+use Rattle.pl_model.specs.declared.errand.Closed.{Closed}
+use Rattle.pl_model.specs.declared.errand.Errand.{Errand}
+use Rattle.pl_model.specs.declared.fixed.Fixed.{Fixed}
+use Rattle.pl_model.specs.declared.work.Work.TheVariants.{Send as to_send}
+use Rattle.pl_model.specs.Claims.{numbered}
 use Rattle.pl_model.specs.Decisions.{Turn, number_at, turn_in, turn_of}
-use Rattle.pl_model.specs.Due.{asks_check, asks_config, at_turn, is_asked, is_lane_of, is_next_lane, is_read_ready, is_ready_on, is_wanted_op, on_goal, passes_limit, sends_goal, to_send}
+use Rattle.pl_model.specs.Due.{asks_check, asks_config, at_turn, is_asked, is_lane_of, is_next_lane, is_read_ready, is_ready_on, is_wanted_op, on_goal, passes_limit, sends_goal}
 use Rattle.pl_model.specs.History.{known_of}
 use Rattle.pl_model.specs.Known.{Known, goal_at, has_problem, next_turn}
-use Rattle.pl_model.specs.Legal.{IsLegal, MayHappen}
-use Rattle.pl_model.specs.Tickets.{Closed, Errand, begun_of, was_begun}
+use Rattle.pl_model.specs.Legal.{IsOrderly, MayHappen}
+use Rattle.pl_model.specs.Tickets.{begun_of, was_begun}
 use Rattle.pl_model_laws.proofs.Among.{IsAmong}
 use Rattle.pl_model_laws.proofs.Growing.{equal_numbers, goals-stay, numbered_more, same_number}
 use Rattle.pl_model_laws.proofs.Once.{and_left, and_right}
@@ -111,8 +115,8 @@ module _ (run : Fixed) (event : Event) (past : List Event) where
   named_stays (op.Read on) named = may_stay on named
   named_stays _ named = tt
 
-module _ (run : Fixed) (spelling : Spelling) where
-  named_step : (seat : ℕ) (past : List Event) (what : What) (errand : Errand) → MayHappen spelling (known_of run past) seat what
+module _ (run : Fixed) where
+  named_step : (seat : ℕ) (past : List Event) (what : What) (errand : Errand) → MayHappen (known_of run past) seat what
       → (IsAmong errand (begun_of past) → IsNamed (known_of run past) errand.op)
       → IsAmong errand (begun_of (record { seat = seat; what = what } ∷ past)) → IsNamed (known_of run past) errand.op
   named_step seat past (Begun ticket lane about) errand may rest (inl same) =
@@ -123,9 +127,9 @@ module _ (run : Fixed) (spelling : Spelling) where
   named_step seat past _ errand may rest there = rest there
 
   -- what was begun is about a goal that stands
-  pub begun-named : (history : List Event) (errand : Errand) → IsLegal run spelling history → IsAmong errand (begun_of history)
+  pub begun-named : (history : List Event) (errand : Errand) → IsOrderly run history → IsAmong errand (begun_of history)
       → IsNamed (known_of run history) errand.op
-  begun-named [] errand legal there = absurd there
-  begun-named (event ∷ past) errand legal there =
+  begun-named [] errand orderly there = absurd there
+  begun-named (event ∷ past) errand orderly there =
       named_stays run event past errand.op
-      (named_step event.seat past event.what errand legal.1 (begun-named past errand legal.0) there)
+      (named_step event.seat past event.what errand orderly.1 (begun-named past errand orderly.0) there)

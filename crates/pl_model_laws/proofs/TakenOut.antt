@@ -1,11 +1,14 @@
 -- A row that was taken out stays so, and no row comes back.
 use Rattle.std.proofs.Common.{◌≡◌, ℕ, Bool, true, false, not, ◌&&◌, List, ◌∷◌, length, nat_lt, Some, refl, subst}
 use Rattle.pl_events.specs.declared.event.Event.{Event}
-use Rattle.pl_model.specs.Run.{Fixed, Spelling, rows_of}
-use Rattle.pl_model.specs.Claims.{Decided, is_delete_first, is_row}
+use Rattle.pl_model.specs.declared.decided.Decided.{Decided}
+use Rattle.pl_model.specs.declared.fixed.Fixed.{Fixed}
+use Rattle.pl_model.specs.Run.{rows_of}
+use Rattle.pl_decide.specs.Limited.{is_delete_first}
+use Rattle.pl_model.specs.Claims.{is_row}
 use Rattle.pl_model.specs.History.{known_of}
 use Rattle.pl_model.specs.Known.{Known, decided_goal}
-use Rattle.pl_model.specs.Legal.{IsLegal}
+use Rattle.pl_model.specs.Legal.{IsOrderly}
 use Rattle.pl_model.specs.Recording.{has_number, removed_of}
 use Rattle.pl_model.specs.Rows.{is_deleted_first, is_left, is_taken_out, is_taken_over, was_removed}
 use Rattle.pl_model_laws.proofs.Claiming.{numbered_passes, passing_number}
@@ -23,7 +26,7 @@ both_made true false is none = refl
 both_made true true is none = absurd (let e : true ≡ false = none in cc)
 both_made false b is none = absurd (let e : false ≡ true = is in cc)
 
-module _ (run : Fixed) (spelling : Spelling) (event : Event) (past : List Event) (legal : IsLegal run spelling (event ∷ past)) where
+module _ (run : Fixed) (event : Event) (past : List Event) (orderly : IsOrderly run (event ∷ past)) where
   abbrev before : Known
   before = known_of run past
 
@@ -37,10 +40,10 @@ module _ (run : Fixed) (spelling : Spelling) (event : Event) (past : List Event)
       let claims : is_row found.1.claim row ≡ true = and_right (is_delete_first found.1.decision) _ found.3 in
       let listed : has_number (removed_of past) row ≡ true =
       subst (λ (events : List Event). has_number (removed_of events) row ≡ true) (history_of run past) removed in
-      let was = removed-removable run spelling row past legal.0 listed in
+      let was = removed-removable run row past orderly.0 listed in
       let then_decided : decided_goal (known_of run was.past) found.0 ≡ Some found.1 =
-      claimed-then run spelling (event ∷ past) found.0 row found.1 found.2 claims was.past
-      (was.later after (later-before run spelling event past after legal.1 (later-now run (event ∷ past)))) was.legal
+      claimed-then run (event ∷ past) found.0 row found.1 found.2 claims was.past
+      (was.later after (later-before run event past after orderly.1 (later-now run (event ∷ past)))) was.orderly
       (removable-parts (known_of run was.past) row was.removable).doomed in
       let still_decided : decided_goal before found.0 ≡ Some found.1 =
       (was.later before (later-now run past)).decisions found.0 found.1 then_decided in

@@ -6,12 +6,15 @@ use Rattle.pl_state.specs.Chain.{some_passes}
 use Rattle.pl_state.specs.declared.entry.Entry.{Entry}
 use Rattle.pl_state.specs.declared.goal.Goal.{Goal}
 use Rattle.pl_events.specs.declared.event.Event.{Event}
-use Rattle.pl_model.specs.Run.{Fixed, Spelling, rows_of}
-use Rattle.pl_model.specs.Claims.{Decided, claimed_row, claimer_of, is_create_first, is_row}
+use Rattle.pl_model.specs.declared.decided.Decided.{Decided}
+use Rattle.pl_model.specs.declared.fixed.Fixed.{Fixed}
+use Rattle.pl_model.specs.Run.{rows_of}
+use Rattle.pl_decide.specs.Limited.{is_create_first}
+use Rattle.pl_model.specs.Claims.{claimed_row, claimer_of, is_row}
 use Rattle.pl_model.specs.Entries.{Turning, turning_of, turnings}
 use Rattle.pl_model.specs.History.{known_of}
 use Rattle.pl_model.specs.Known.{Known, claim_row, decided_goal, goal_at, is_recorded}
-use Rattle.pl_model.specs.Legal.{IsLegal}
+use Rattle.pl_model.specs.Legal.{IsOrderly}
 use Rattle.pl_model.specs.Recording.{has_number, only_if, recorded_of}
 use Rattle.pl_model.specs.Rows.{is_taken_over, stands_beside}
 use Rattle.pl_model_laws.specs.Apart.{KeepsApart}
@@ -91,9 +94,9 @@ newest_recorded known newest older only = only newest (ap (λ (b : Bool). b || h
 abbrev pub AllDecided : Fixed → List Event → Type 0
 AllDecided run history = (n : ℕ) → is_recorded (known_of run history) n ≡ true → is_some (decided_goal (known_of run history) n) ≡ true
 
--- so it is in a legal history
-pub all-decided : (run : Fixed) (spelling : Spelling) (history : List Event) → IsLegal run spelling history → AllDecided run history
-all-decided run spelling history legal n h = ap (λ (o : Option Decided). is_some o) (recorded-held run spelling history n legal h).2.decided
+-- so it is in an orderly history
+pub all-decided : (run : Fixed) (history : List Event) → IsOrderly run history → AllDecided run history
+all-decided run history orderly n h = ap (λ (o : Option Decided). is_some o) (recorded-held run history n orderly h).2.decided
 
 module _ (run : Fixed) (history : List Event) (all_decided : AllDecided run history) where
   abbrev known : Known

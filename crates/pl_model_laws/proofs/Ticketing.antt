@@ -7,13 +7,14 @@ use Rattle.pl_events.specs.declared.event.What.TheVariants.{Begun, Answered, Los
 use Rattle.pl_events.specs.declared.reply.Loss.{Loss}
 use Rattle.pl_events.specs.declared.reply.Reply.{Reply}
 use Rattle.pl_decide.specs.declared.problem.Problem.{Problem}
-use Rattle.pl_model.specs.Run.{Fixed, Spelling}
+use Rattle.pl_model.specs.declared.errand.Errand.{Errand}
+use Rattle.pl_model.specs.declared.fixed.Fixed.{Fixed}
 use Rattle.pl_model.specs.Due.{has_open}
 use Rattle.pl_model.specs.History.{known_of}
 use Rattle.pl_model.specs.Known.{Known, has_problem}
-use Rattle.pl_model.specs.Legal.{IsLegal, MayHappen, is_seats}
+use Rattle.pl_model.specs.Legal.{IsOrderly, MayHappen, is_seats}
 use Rattle.pl_model.specs.Problems.{own_problem, problem_of_loss}
-use Rattle.pl_model.specs.Tickets.{Errand, begun_of, errand_at, is_closed, is_lost, is_open, is_out, loses, next_ticket, open_errands}
+use Rattle.pl_model.specs.Tickets.{begun_of, errand_at, is_closed, is_lost, is_open, is_out, loses, next_ticket, open_errands}
 use Rattle.pl_model_laws.proofs.Among.{IsAmong, any_none, find_among, filter_none, not_false, no_length, append_none, map_none, list_none, none_first}
 use Rattle.pl_model_laws.proofs.Growing.{equal_numbers, other_numbers, same_number}
 use Rattle.pl_model_laws.proofs.Once.{and_right, history_of}
@@ -40,8 +41,8 @@ abbrev pub WasAnswered : List Event → ℕ → Reply → Type 0
 WasAnswered [] ticket said = ⊥
 WasAnswered (event ∷ past) ticket said = (event.what ≡ Answered ticket said) ⊎ WasAnswered past ticket said
 
-module _ (run : Fixed) (spelling : Spelling) where
-  below_step : (seat : ℕ) (past : List Event) (what : What) (errand : Errand) → MayHappen spelling (known_of run past) seat what
+module _ (run : Fixed) where
+  below_step : (seat : ℕ) (past : List Event) (what : What) (errand : Errand) → MayHappen (known_of run past) seat what
       → (IsAmong errand (begun_of past) → errand.ticket < length (begun_of past))
       → IsAmong errand (begun_of (record { seat = seat; what = what } ∷ past))
       → errand.ticket < length (begun_of (record { seat = seat; what = what } ∷ past))
@@ -55,47 +56,47 @@ module _ (run : Fixed) (spelling : Spelling) where
   below_step seat past _ errand may rest there = rest there
 
   -- every ticket is below the next one
-  pub ticket-below : (history : List Event) (errand : Errand) → IsLegal run spelling history → IsAmong errand (begun_of history)
+  pub ticket-below : (history : List Event) (errand : Errand) → IsOrderly run history → IsAmong errand (begun_of history)
       → errand.ticket < length (begun_of history)
-  ticket-below [] errand legal there = absurd there
-  ticket-below (event ∷ past) errand legal there =
-      below_step event.seat past event.what errand legal.1 (ticket-below past errand legal.0) there
+  ticket-below [] errand orderly there = absurd there
+  ticket-below (event ∷ past) errand orderly there =
+      below_step event.seat past event.what errand orderly.1 (ticket-below past errand orderly.0) there
 
-  errand_step : (seat : ℕ) (past : List Event) (what : What) (ticket : ℕ) (errand : Errand) → IsLegal run spelling past
-      → MayHappen spelling (known_of run past) seat what → errand_at past ticket ≡ Some errand
+  errand_step : (seat : ℕ) (past : List Event) (what : What) (ticket : ℕ) (errand : Errand) → IsOrderly run past
+      → MayHappen (known_of run past) seat what → errand_at past ticket ≡ Some errand
       → errand_at (record { seat = seat; what = what } ∷ past) ticket ≡ Some errand
-  errand_step seat past (Begun own lane about) ticket errand legal may h =
+  errand_step seat past (Begun own lane about) ticket errand orderly may h =
       let there = find_among (λ one. one.ticket == ticket) (begun_of past) errand h in
-      let less : errand.ticket < length (begun_of past) = ticket-below past errand legal there.0 in
+      let less : errand.ticket < length (begun_of past) = ticket-below past errand orderly there.0 in
       let next : own ≡ length (begun_of past) =
       subst (λ (events : List Event). own ≡ next_ticket events) (history_of run past) may.next in
       let same : errand.ticket ≡ ticket = equal_numbers errand.ticket ticket there.1 in
       rw (other_numbers ticket own (omega arith)) h
-  errand_step seat past _ ticket errand legal may h = h
+  errand_step seat past _ ticket errand orderly may h = h
 
   -- a ticket keeps its errand
-  pub errand-stays : (event : Event) (past : List Event) (ticket : ℕ) (errand : Errand) → IsLegal run spelling (event ∷ past)
+  pub errand-stays : (event : Event) (past : List Event) (ticket : ℕ) (errand : Errand) → IsOrderly run (event ∷ past)
       → errand_at past ticket ≡ Some errand → errand_at (event ∷ past) ticket ≡ Some errand
-  errand-stays event past ticket errand legal h = errand_step event.seat past event.what ticket errand legal.0 legal.1 h
+  errand-stays event past ticket errand orderly h = errand_step event.seat past event.what ticket errand orderly.0 orderly.1 h
 
-  own_step : (seat : ℕ) (past : List Event) (what : What) (errand : Errand) → IsLegal run spelling past
-      → MayHappen spelling (known_of run past) seat what
+  own_step : (seat : ℕ) (past : List Event) (what : What) (errand : Errand) → IsOrderly run past
+      → MayHappen (known_of run past) seat what
       → (IsAmong errand (begun_of past) → errand_at past errand.ticket ≡ Some errand)
       → IsAmong errand (begun_of (record { seat = seat; what = what } ∷ past))
       → errand_at (record { seat = seat; what = what } ∷ past) errand.ticket ≡ Some errand
-  own_step seat past (Begun own lane about) errand legal may rest (inl same) =
+  own_step seat past (Begun own lane about) errand orderly may rest (inl same) =
       subst (λ (one : Errand). errand_at (record { seat = seat; what = Begun own lane about } ∷ past) one.ticket ≡ Some one)
       (sym same) (rw (same_number own) refl)
-  own_step seat past (Begun own lane about) errand legal may rest (inr there) =
-      errand_step seat past (Begun own lane about) errand.ticket errand legal may (rest there)
-  own_step seat past _ errand legal may rest there = rest there
+  own_step seat past (Begun own lane about) errand orderly may rest (inr there) =
+      errand_step seat past (Begun own lane about) errand.ticket errand orderly may (rest there)
+  own_step seat past _ errand orderly may rest there = rest there
 
   -- each errand is that of its ticket
-  pub errand-own : (history : List Event) (errand : Errand) → IsLegal run spelling history → IsAmong errand (begun_of history)
+  pub errand-own : (history : List Event) (errand : Errand) → IsOrderly run history → IsAmong errand (begun_of history)
       → errand_at history errand.ticket ≡ Some errand
-  errand-own [] errand legal there = absurd there
-  errand-own (event ∷ past) errand legal there =
-      own_step event.seat past event.what errand legal.0 legal.1 (errand-own past errand legal.0) there
+  errand-own [] errand orderly there = absurd there
+  errand-own (event ∷ past) errand orderly there =
+      own_step event.seat past event.what errand orderly.0 orderly.1 (errand-own past errand orderly.0) there
 
   -- without a problem nothing is lost
   never_lost : (past : List Event) (seat ticket : ℕ) (why : Loss) → is_seats (known_of run past) seat ticket ≡ true
@@ -108,30 +109,30 @@ module _ (run : Fixed) (spelling : Spelling) where
       sym (ap (λ (o : Option Errand). option_map (λ (errand : Errand). problem_of_loss errand.lane why) o) it.1) ∙ none in
       cc
 
-  unlost_step : (seat : ℕ) (past : List Event) (what : What) (ticket : ℕ) → MayHappen spelling (known_of run past) seat what
+  unlost_step : (seat : ℕ) (past : List Event) (what : What) (ticket : ℕ) → MayHappen (known_of run past) seat what
       → own_problem (known_of run past) what ≡ None → loses ticket what ≡ false
   unlost_step seat past (Lost own why) ticket may none = absurd (never_lost past seat own why may none)
   unlost_step seat past _ ticket may none = refl
 
-  unlost : (history : List Event) (ticket : ℕ) → IsLegal run spelling history → has_problem (known_of run history) ≡ false
+  unlost : (history : List Event) (ticket : ℕ) → IsOrderly run history → has_problem (known_of run history) ≡ false
       → list_any (λ event. loses ticket event.what) history ≡ false
-  unlost [] ticket legal calm = refl
-  unlost (event ∷ past) ticket legal calm =
+  unlost [] ticket orderly calm = refl
+  unlost (event ∷ past) ticket orderly calm =
       let before = calm-before run event past calm in
-      rw (unlost_step event.seat past event.what ticket legal.1 before.1) (unlost past ticket legal.0 before.0)
+      rw (unlost_step event.seat past event.what ticket orderly.1 before.1) (unlost past ticket orderly.0 before.0)
 
   -- so no lane is
-  pub none-lost : (history : List Event) → IsLegal run spelling history → has_problem (known_of run history) ≡ false
+  pub none-lost : (history : List Event) → IsOrderly run history → has_problem (known_of run history) ≡ false
       → (lane : ℕ) → is_lost history lane ≡ false
-  none-lost history legal calm lane =
+  none-lost history orderly calm lane =
       any_none (λ errand. errand.lane == lane && list_any (λ event. loses errand.ticket event.what) history) (begun_of history)
       (λ errand there. by errand.ticket (errand.lane == lane))
     where
       by : (ticket : ℕ) (b : Bool) → (b && list_any (λ event. loses ticket event.what) history) ≡ false
-      by ticket true = unlost history ticket legal calm
+      by ticket true = unlost history ticket orderly calm
       by ticket false = refl
 
-  answered_step : (seat : ℕ) (past : List Event) (what : What) (ticket : ℕ) → MayHappen spelling (known_of run past) seat what
+  answered_step : (seat : ℕ) (past : List Event) (what : What) (ticket : ℕ) → MayHappen (known_of run past) seat what
       → own_problem (known_of run past) what ≡ None
       → (is_closed past ticket ≡ true → (said : Reply) × WasAnswered past ticket said)
       → is_closed (record { seat = seat; what = what } ∷ past) ticket ≡ true
@@ -146,12 +147,12 @@ module _ (run : Fixed) (spelling : Spelling) where
   answered_step seat past _ ticket may none rest h = let one = rest h in (one.0, inr one.1)
 
   -- what is closed was answered
-  pub closed_answered : (history : List Event) (ticket : ℕ) → IsLegal run spelling history → has_problem (known_of run history) ≡ false
+  pub closed_answered : (history : List Event) (ticket : ℕ) → IsOrderly run history → has_problem (known_of run history) ≡ false
       → is_closed history ticket ≡ true → (said : Reply) × WasAnswered history ticket said
-  closed_answered [] ticket legal calm h = absurd (let e : false ≡ true = h in cc)
-  closed_answered (event ∷ past) ticket legal calm h =
+  closed_answered [] ticket orderly calm h = absurd (let e : false ≡ true = h in cc)
+  closed_answered (event ∷ past) ticket orderly calm h =
       let before = calm-before run event past calm in
-      answered_step event.seat past event.what ticket legal.1 before.1 (closed_answered past ticket legal.0 before.0) h
+      answered_step event.seat past event.what ticket orderly.1 before.1 (closed_answered past ticket orderly.0 before.0) h
 
 -- nothing is open that the history tells of
 none_open : (run : Fixed) (history : List Event) → has_open (known_of run history) ≡ false → open_errands history ≡ []

@@ -9,16 +9,19 @@ use Rattle.pl_decide.specs.declared.decision.Decision.{Decision}
 use Rattle.pl_decide.specs.declared.decision.Decision.TheVariants.{Refused}
 use Rattle.pl_decide.specs.declared.problem.Problem.{Problem}
 use Rattle.pl_decide.specs.declared.problem.Problem.TheVariants as problem
-use Rattle.pl_model.specs.Run.{Fixed, Spelling, is_preview, rows_of}
+use Rattle.pl_model.specs.declared.decided.Decided.{Decided}
+use Rattle.pl_model.specs.declared.fixed.Fixed.{Fixed}
+use Rattle.pl_model.specs.Run.{is_preview, rows_of}
 use Rattle.pl_model.specs.Recording.{has_number}
-use Rattle.pl_model.specs.Claims.{Decided, chain_of_goal, claimer_of, first_some, is_chained, is_claimed, is_create_first, is_delete_first, is_row, numbered}
-use Rattle.pl_model.specs.Decisions.{is_refused}
+use Rattle.pl_decide.specs.Limited.{is_create_first, is_delete_first, is_refused}
+use Rattle.pl_model.specs.Claims.{chain_of_goal, claimer_of, first_some, is_chained, is_claimed, is_row, numbered}
 use Rattle.pl_model.specs.History.{known_of}
 use Rattle.pl_model.specs.Known.{Known, decided_goal, has_problem}
-use Rattle.pl_model.specs.Legal.{IsLegal}
+use Rattle.pl_model.specs.Legal.{IsOrderly}
 use Rattle.pl_model.specs.Problems.{has_deleted, is_claimed_beside, lacking_in, lacks_provider, missing_provider, refusal_in}
-use Rattle.pl_model.specs.Rows.{is_left, is_marked, is_replaced, row_at, row_numbers, stands_beside, takes_along}
+use Rattle.pl_model.specs.Rows.{goes_now, is_left, is_marked, is_replaced, row_at, row_numbers, stands_beside, takes_along}
 use Rattle.pl_model_laws.specs.Apart.{KeepsApart}
+use Rattle.pl_model_laws.proofs.Along.{along-so, along-there, along-told}
 use Rattle.pl_model_laws.proofs.Calm.{calm-before, decided-grown, first_none, newly-none, no-decision, no-provider, none-decided, option_map_none, range_each}
 use Rattle.pl_model_laws.proofs.Claiming.{claims-allowed, numbered_behind, numbered_passes, numbered_there, passing_number, was-made, where_found}
 use Rattle.pl_model_laws.proofs.Going.{provided-later}
@@ -97,7 +100,7 @@ provider_there known one row entry none at goes =
     (option_map_none problem.MissingProvider (first_some (lacking_in known one) (row_numbers known)) none)))
     at goes
 
-module _ (run : Fixed) (spelling : Spelling) (history : List Event) (n row : ℕ) (one : Decided)
+module _ (run : Fixed) (history : List Event) (n row : ℕ) (one : Decided)
     (decided : decided_goal (known_of run history) n ≡ Some one) (deletes : is_delete_first one.decision ≡ true) where
   abbrev known : Known
   known = known_of run history
@@ -168,22 +171,26 @@ module _ (run : Fixed) (spelling : Spelling) (history : List Event) (n row : ℕ
     goes_then = not (is_claimed told_then.decided row) || is_marked told_then row
 
     -- a row of the chain that nobody claims or that is marked
-    chain_taken : chained_then ≡ true → goes_then ≡ true → has_deleted told_then one row ≡ true
-    chain_taken chained goes =
+    chain_taken : goes_now known row ≡ true → chained_then ≡ true → goes_then ≡ true → has_deleted told_then one row ≡ true
+    chain_taken along chained goes =
+        let (entry, at) = along-there known row along in
+        let at_then : row_at told_then row ≡ Some entry =
+        ap (λ (fixed : Fixed). slice_get (rows_of fixed) row) (run_of run past ∙ sym (run_of run history)) ∙ at in
         or_first (takes_along told_then row one) (chained_then && is_claimed_beside told_then row)
-        (and_made (is_delete_first one.decision) (is_row one.claim row || (chained_then && goes_then)) deletes
-        (or_second (is_row one.claim row) (chained_then && goes_then) (and_made chained_then goes_then chained goes)))
+        (and_made (is_delete_first one.decision) (is_row one.claim row || (chained_then && goes_now told_then row)) deletes
+        (or_second (is_row one.claim row) (chained_then && goes_now told_then row)
+        (and_made chained_then (goes_now told_then row) chained (along-so told_then row entry at_then goes))))
 
     -- a row of the chain that is marked later
-    marked_later : (b : Bool) → is_marked_base known ≡ b → has_number (chain_of_goal run one) row ≡ true → chained_then ≡ true
-        → (b || is_replaced known row) ≡ true → has_deleted told_then one row ≡ true
-    marked_later true is chained now h =
+    marked_later : goes_now known row ≡ true → (b : Bool) → is_marked_base known ≡ b → has_number (chain_of_goal run one) row ≡ true
+        → chained_then ≡ true → (b || is_replaced known row) ≡ true → has_deleted told_then one row ≡ true
+    marked_later along true is chained now h =
         let base : is_marked_base told_then ≡ true =
         ap (λ (fixed : Fixed). some_passes (λ (it : Entry). it.doomed) (slice_get (rows_of fixed) row))
         (run_of run past ∙ sym (run_of run history)) ∙ is in
-        chain_taken now (or_second (not (is_claimed told_then.decided row)) (is_marked told_then row)
+        chain_taken along now (or_second (not (is_claimed told_then.decided row)) (is_marked told_then row)
         (or_first (is_marked_base told_then) (is_replaced told_then row) base))
-    marked_later false is chained now h =
+    marked_later along false is chained now h =
         or_second (takes_along told_then row one) (chained_then && is_claimed_beside told_then row)
         (and_made chained_then (is_claimed_beside told_then row) now (beside_then past later there chained h))
 
@@ -193,11 +200,11 @@ module _ (run : Fixed) (spelling : Spelling) (history : List Event) (n row : ℕ
     unclaimed_then true at none = absurd (let e : true ≡ false = sym (claimed_later past later at) ∙ none in cc)
 
     -- a row of the chain that nobody claims later or that is marked told_then
-    chain_later : (b : Bool) → is_claimed known.decided row ≡ b → has_number (chain_of_goal run one) row ≡ true → chained_then ≡ true
-        → (not b || is_marked known row) ≡ true → has_deleted told_then one row ≡ true
-    chain_later true is chained now h = marked_later (is_marked_base known) refl chained now h
-    chain_later false is chained now h =
-        chain_taken now (or_first (not (is_claimed told_then.decided row)) (is_marked told_then row)
+    chain_later : goes_now known row ≡ true → (b : Bool) → is_claimed known.decided row ≡ b → has_number (chain_of_goal run one) row ≡ true
+        → chained_then ≡ true → (not b || is_marked known row) ≡ true → has_deleted told_then one row ≡ true
+    chain_later along true is chained now h = marked_later along (is_marked_base known) refl chained now h
+    chain_later along false is chained now h =
+        chain_taken along now (or_first (not (is_claimed told_then.decided row)) (is_marked told_then row)
         (unclaimed_then (is_claimed told_then.decided row) refl is))
 
     -- a row that the goal takes along is one that it had deleted where it was decided
@@ -205,30 +212,31 @@ module _ (run : Fixed) (spelling : Spelling) (history : List Event) (n row : ℕ
     deleted_then takes = by (is_row one.claim row) refl (and_right (is_delete_first one.decision) _ takes)
       where
         by : (b : Bool) → is_row one.claim row ≡ b
-            → (b || (has_number (chain_of_goal known.run one) row && (not (is_claimed known.decided row) || is_marked known row))) ≡ true
+            → (b || (has_number (chain_of_goal known.run one) row && goes_now known row)) ≡ true
             → has_deleted told_then one row ≡ true
         by true is h =
             or_first (takes_along told_then row one) (chained_then && is_claimed_beside told_then row)
-            (and_made (is_delete_first one.decision) (is_row one.claim row || (chained_then && goes_then)) deletes
-            (or_first (is_row one.claim row) (chained_then && goes_then) is))
+            (and_made (is_delete_first one.decision) (is_row one.claim row || (chained_then && goes_now told_then row)) deletes
+            (or_first (is_row one.claim row) (chained_then && goes_now told_then row) is))
         by false is h =
             let chain : has_number (chain_of_goal known.run one) row ≡ true =
             and_left (has_number (chain_of_goal known.run one) row) _ h in
             let chained : has_number (chain_of_goal run one) row ≡ true =
             subst (λ (fixed : Fixed). has_number (chain_of_goal fixed one) row ≡ true) (run_of run history) chain in
-            chain_later (is_claimed known.decided row) refl chained
+            let along : goes_now known row ≡ true = and_right (has_number (chain_of_goal known.run one) row) _ h in
+            chain_later along (is_claimed known.decided row) refl chained
             (subst (λ (fixed : Fixed). has_number (chain_of_goal fixed one) row ≡ true) (sym (run_of run past)) chained)
-            (and_right (has_number (chain_of_goal known.run one) row) _ h)
+            (along-told known row along)
 
   -- so its lack of a provider was a problem there, and it has one for as long as it is left
-  module _ (legal : IsLegal run spelling history) (real : is_preview run.mode ≡ false) (apart : KeepsApart (rows_of run)) (entry : Entry)
+  module _ (orderly : IsOrderly run history) (real : is_preview run.mode ≡ false) (apart : KeepsApart (rows_of run)) (entry : Entry)
       (at : row_at known row ≡ Some entry) (left : is_left known row ≡ true) (takes : takes_along known row one ≡ true) where
-    provided_then : (past : List Event) → Later run past known → IsLegal run spelling past → has_problem (known_of run past) ≡ false
+    provided_then : (past : List Event) → Later run past known → IsOrderly run past → has_problem (known_of run past) ≡ false
         → decided_goal (known_of run past) n ≡ Some one → lacks_provider known row ≡ false
-    provided_then [] later legal_then calm h = absurd (none-decided run n one h)
-    provided_then (event ∷ past) later legal_then calm h =
+    provided_then [] later orderly_then calm h = absurd (none-decided run n one h)
+    provided_then (event ∷ past) later orderly_then calm h =
         by (nat_lt n (length (known_of run past).decided)) refl
-        (provided_then past (later-before run spelling event past known legal_then.1 later) legal_then.0 (calm-before run event past calm))
+        (provided_then past (later-before run event past known orderly_then.1 later) orderly_then.0 (calm-before run event past calm))
       where
         by : (b : Bool) → nat_lt n (length (known_of run past).decided) ≡ b
             → (decided_goal (known_of run past) n ≡ Some one → lacks_provider known row ≡ false) → lacks_provider known row ≡ false
@@ -236,7 +244,7 @@ module _ (run : Fixed) (spelling : Spelling) (history : List Event) (n row : ℕ
             rest (numbered_behind (known_of run past).decided (known_of run (event ∷ past)).decided n one (decided-grown run event past) h
             (grind (arith, nat_tests)))
         by false is rest =
-            provided-later run spelling history legal (event ∷ past) later legal_then real apart row left
+            provided-later run history orderly (event ∷ past) later orderly_then real apart row left
             (provider_there (known_of run (event ∷ past)) one row entry
             (newly-none (missing_provider (known_of run (event ∷ past))) run event past n one (no-provider run event past calm)
             (grind (arith, nat_tests)) h)
@@ -244,10 +252,10 @@ module _ (run : Fixed) (spelling : Spelling) (history : List Event) (n row : ℕ
             (deleted_then (event ∷ past) later h takes))
 
 -- where no problem stands, each row that a goal takes along and that is left has the provider that it must be sent to
-pub lacking-trouble : (run : Fixed) (spelling : Spelling) (history : List Event) (n row : ℕ) (one : Decided) (entry : Entry)
-    → is_preview run.mode ≡ false → KeepsApart (rows_of run) → IsLegal run spelling history → has_problem (known_of run history) ≡ false
+pub lacking-trouble : (run : Fixed) (history : List Event) (n row : ℕ) (one : Decided) (entry : Entry)
+    → is_preview run.mode ≡ false → KeepsApart (rows_of run) → IsOrderly run history → has_problem (known_of run history) ≡ false
     → decided_goal (known_of run history) n ≡ Some one → is_delete_first one.decision ≡ true
     → takes_along (known_of run history) row one ≡ true → row_at (known_of run history) row ≡ Some entry
     → is_left (known_of run history) row ≡ true → lacks_provider (known_of run history) row ≡ false
-lacking-trouble run spelling history n row one entry real apart legal calm decided deletes takes at left =
-    provided_then run spelling history n row one decided deletes legal real apart entry at left takes history (later-now run history) legal calm decided
+lacking-trouble run history n row one entry real apart orderly calm decided deletes takes at left =
+    provided_then run history n row one decided deletes orderly real apart entry at left takes history (later-now run history) orderly calm decided

@@ -7,13 +7,15 @@ use Rattle.pl_state.specs.Kinds.{is_provider_goal, is_provider_row}
 use Rattle.pl_state.specs.declared.entry.Entry.{Entry}
 use Rattle.pl_state.specs.declared.goal.Goal.{Goal}
 use Rattle.pl_events.specs.declared.event.Event.{Event}
-use Rattle.pl_model.specs.Run.{Fixed, Spelling, is_preview, rows_of}
+use Rattle.pl_model.specs.declared.decided.Decided.{Decided}
+use Rattle.pl_model.specs.declared.fixed.Fixed.{Fixed}
+use Rattle.pl_model.specs.Run.{is_preview, rows_of}
 use Rattle.pl_model.specs.Recording.{has_number, recorded_by, recorded_of}
-use Rattle.pl_model.specs.Claims.{Decided, is_row}
+use Rattle.pl_model.specs.Claims.{is_row}
 use Rattle.pl_model.specs.Entries.{Turning, turning_of, turnings}
 use Rattle.pl_model.specs.History.{known_of}
 use Rattle.pl_model.specs.Known.{Known, decided_goal, goal_at, is_recorded}
-use Rattle.pl_model.specs.Legal.{IsLegal}
+use Rattle.pl_model.specs.Legal.{IsOrderly}
 use Rattle.pl_model.specs.Rows.{is_left, is_marked, is_taken_over}
 use Rattle.pl_model_laws.specs.Apart.{KeepsApart}
 use Rattle.pl_model_laws.proofs.Claiming.{claims-allowed, was-made}
@@ -34,13 +36,13 @@ alike_true true b h is = refl
 alike_true false true h is = absurd (let e : false ≡ true = h in cc)
 alike_true false false h is = absurd (let e : false ≡ true = is in cc)
 
-module _ (run : Fixed) (spelling : Spelling) (history : List Event) (real : is_preview run.mode ≡ false) (apart : KeepsApart (rows_of run))
-    (legal : IsLegal run spelling history) where
+module _ (run : Fixed) (history : List Event) (real : is_preview run.mode ≡ false) (apart : KeepsApart (rows_of run))
+    (orderly : IsOrderly run history) where
   abbrev known : Known
   known = known_of run history
 
   decided_all : AllDecided run history
-  decided_all = all-decided run spelling history legal
+  decided_all = all-decided run history orderly
 
   -- what a history before records is recorded
   are_recorded : (past : List Event) → Later run past known → AreRecorded known (recorded_of past)
@@ -49,24 +51,24 @@ module _ (run : Fixed) (spelling : Spelling) (history : List Event) (real : is_p
   -- no goal that is recorded later claims by an alias a row with the URN of a recorded goal
   module _ (number : ℕ) (goal : Goal) (one : Decided) (stands : goal_at known number ≡ Some goal)
       (decided : decided_goal known number ≡ Some one) where
-    never_turned : (event : Event) (past : List Event) → Later run past known → IsLegal run spelling (event ∷ past)
+    never_turned : (event : Event) (past : List Event) → Later run past known → IsOrderly run (event ∷ past)
         → has_number (recorded_of past) number ≡ true → (other : ℕ) → recorded_by past event.what ≡ Some other
         → is_recorded known other ≡ true → (turning : Turning) → turning_of known other ≡ Some turning → goal.urn ≡ turning.old → ⊥
-    never_turned event past later legal_then recorded other records is_there turning is same =
+    never_turned event past later orderly_then recorded other records is_there turning is same =
         let turn = turning_parts known other turning is in
         let its = turning_row run history decided_all other turning is_there turn in
         let urn : goal.urn ≡ turn.row.urn = same ∙ turn.from in
-        let there = recording-held run spelling event past other legal_then records in
+        let there = recording-held run event past other orderly_then records in
         let own : decided_goal (known_of run past) other ≡ Some its.0 =
         there.2.decided ∙ ap (λ (it : Decided). Some it) (some_same there.1 its.0 (sym (later.decisions other there.1 there.2.decided) ∙ its.2)) in
         let unrecorded : has_number (recorded_of past) other ≡ false =
-        recording-new run spelling event.seat past event.what other legal_then.0 legal_then.1 records in
+        recording-new run event.seat past event.what other orderly_then.0 orderly_then.1 records in
         let missing : is_recorded (known_of run past) other ≡ false = recorded-as run past other ∙ unrecorded in
         let left : is_left (known_of run past) its.1 ≡ true =
-        unrecorded-left run spelling past other its.1 its.0 own its.3 legal_then.0 missing in
+        unrecorded-left run past other its.1 its.0 own its.3 orderly_then.0 missing in
         let unmarked : is_marked (known_of run past) its.1 ≡ false =
-        unrecorded-unmarked run spelling past other its.1 its.0 own its.3 legal_then.0 missing in
-        let free = free-recorded run spelling real apart past number legal_then.0 recorded in
+        unrecorded-unmarked run past other its.1 its.0 own its.3 orderly_then.0 missing in
+        let free = free-recorded run real apart past number orderly_then.0 recorded in
         let goal_same : free.goal ≡ goal = some_same free.goal goal (sym (later.goals number free.goal free.stands) ∙ stands) in
         let one_same : free.one ≡ one = some_same free.one one (sym (later.decisions number free.one free.decided) ∙ decided) in
         free.none its.1 turn.row its.4 left unmarked
@@ -89,12 +91,12 @@ module _ (run : Fixed) (spelling : Spelling) (history : List Event) (real : is_p
       (number : ℕ) (goal : Goal) (one : Decided) (stands : goal_at known number ≡ Some goal)
       (decided : decided_goal known number ≡ Some one) (claims : is_row one.claim row ≡ true) where
     -- from its record on the URN is the goal's own
-    stays_turned : (past : List Event) → Later run past known → IsLegal run spelling past → has_number (recorded_of past) number ≡ true
+    stays_turned : (past : List Event) → Later run past known → IsOrderly run past → has_number (recorded_of past) number ≡ true
         → turned_of known (recorded_of past) entry.urn ≡ goal.urn
-    stays_turned [] later legal_then h = absurd (let e : false ≡ true = h in cc)
-    stays_turned (event ∷ past) later legal_then h =
+    stays_turned [] later orderly_then h = absurd (let e : false ≡ true = h in cc)
+    stays_turned (event ∷ past) later orderly_then h =
         by (recorded_by past event.what) refl h
-        (stays_turned past (later-before run spelling event past known legal_then.1 later) legal_then.0)
+        (stays_turned past (later-before run event past known orderly_then.1 later) orderly_then.0)
       where
         new_recorded : (other : ℕ) → recorded_by past event.what ≡ Some other → is_recorded known other ≡ true
         new_recorded other is =
@@ -109,11 +111,11 @@ module _ (run : Fixed) (spelling : Spelling) (history : List Event) (real : is_p
         new other is true recorded h rest =
             ap (turned_at (turning_of known other)) (rest recorded)
             ∙ other-turn (turning_of known other) goal.urn
-            (never_turned number goal one stands decided event past (later-before run spelling event past known legal_then.1 later) legal_then
+            (never_turned number goal one stands decided event past (later-before run event past known orderly_then.1 later) orderly_then
             recorded other is (new_recorded other is))
         new other is false none h rest =
             first-turned run history decided_all apart row entry at number goal one stands decided claims other (recorded_of past)
-            (are_recorded past (later-before run spelling event past known legal_then.1 later)) none
+            (are_recorded past (later-before run event past known orderly_then.1 later)) none
             (first_true (other == number) h)
 
         by : (o : Option ℕ) → recorded_by past event.what ≡ o → has_number (cons_option o (recorded_of past)) number ≡ true
@@ -136,7 +138,7 @@ module _ (run : Fixed) (spelling : Spelling) (history : List Event) (real : is_p
       alike_true (is_provider_goal made.goal) (is_provider_row allowed.entry) allowed.alike
       (ap (λ (it : Entry). is_provider_row it) (some_same allowed.entry entry (sym allowed.at ∙ at)) ∙ provides) in
       let turned : turned_of known (recorded_of history) entry.urn ≡ made.goal.urn =
-      stays_turned row entry at own.number made.goal own.one made.stands own.decided own.claims history (later-now run history) legal
+      stays_turned row entry at own.number made.goal own.one made.stands own.decided own.claims history (later-now run history) orderly
       (sym (recorded-as run history own.number) ∙ own.recorded) in (
         own.number,
         made.goal,
@@ -157,28 +159,28 @@ module _ (run : Fixed) (spelling : Spelling) (history : List Event) (real : is_p
       → first.new ≢ second.old
 
   -- each goal's, of those that were recorded before
-  apart_from : (event : Event) (past : List Event) → Later run past known → IsLegal run spelling (event ∷ past) → (other : ℕ)
+  apart_from : (event : Event) (past : List Event) → Later run past known → IsOrderly run (event ∷ past) → (other : ℕ)
       → recorded_by past event.what ≡ Some other → is_recorded known other ≡ true → (numbers : List ℕ)
       → ((n : ℕ) → has_number numbers n ≡ true → has_number (recorded_of past) n ≡ true) → Each (λ n. TurnsApart n other) numbers
-  apart_from event past later legal_then other records is_there [] within = tt
-  apart_from event past later legal_then other records is_there (number ∷ numbers) within = (
+  apart_from event past later orderly_then other records is_there [] within = tt
+  apart_from event past later orderly_then other records is_there (number ∷ numbers) within = (
     λ first second is too same.
         let recorded : has_number (recorded_of past) number ≡ true = within number (rw (same_number number) refl) in
-        let there = recorded-held run spelling history number legal (are_recorded past later number recorded) in
+        let there = recorded-held run history number orderly (are_recorded past later number recorded) in
         let turn = turning_parts known number first is in
         let own : turn.goal ≡ there.0 = some_same turn.goal there.0 (sym turn.stands ∙ there.2.stands) in
-        never_turned number there.0 there.1 there.2.stands there.2.decided event past later legal_then recorded other records is_there second too
+        never_turned number there.0 there.1 there.2.stands there.2.decided event past later orderly_then recorded other records is_there second too
         (ap (λ (goal : Goal). goal.urn) (sym own) ∙ sym turn.to ∙ same),
-    apart_from event past later legal_then other records is_there numbers (λ n has. within n (rw has (or_true (number == n)))),
+    apart_from event past later orderly_then other records is_there numbers (λ n has. within n (rw has (or_true (number == n)))),
   )
 
-  turns_apart : (past : List Event) → Later run past known → IsLegal run spelling past
+  turns_apart : (past : List Event) → Later run past known → IsOrderly run past
       → Pairwise (λ later earlier. TurnsApart earlier later) (recorded_of past)
-  turns_apart [] later legal_then = tt
-  turns_apart (event ∷ past) later legal_then = by (recorded_by past event.what) refl (turns_apart past before legal_then.0)
+  turns_apart [] later orderly_then = tt
+  turns_apart (event ∷ past) later orderly_then = by (recorded_by past event.what) refl (turns_apart past before orderly_then.0)
     where
       before : Later run past known
-      before = later-before run spelling event past known legal_then.1 later
+      before = later-before run event past known orderly_then.1 later
 
       by : (o : Option ℕ) → recorded_by past event.what ≡ o → Pairwise (λ later earlier. TurnsApart earlier later) (recorded_of past)
           → Pairwise (λ later earlier. TurnsApart earlier later) (cons_option o (recorded_of past))
@@ -188,7 +190,7 @@ module _ (run : Fixed) (spelling : Spelling) (history : List Event) (real : is_p
           are_recorded (event ∷ past) later other
           (ap (λ (o : Option ℕ). has_number (cons_option o (recorded_of past)) other) is
           ∙ ap (λ (b : Bool). b || has_number (recorded_of past) other) (same_number other)) in
-          (apart_from event past before legal_then other is there (recorded_of past) (λ n has. has), rest)
+          (apart_from event past before orderly_then other is there (recorded_of past) (λ n has. has), rest)
 
   pub turned-once : AllPairs (λ earlier later. earlier.new ≢ later.old) (turnings known)
   turned-once =
@@ -196,4 +198,4 @@ module _ (run : Fixed) (spelling : Spelling) (history : List Event) (real : is_p
       (pairs-mapped (turning_of known) (λ earlier later. earlier.new ≢ later.old) (reverse (recorded_of known.history))
       (pairs-turned (λ later earlier. TurnsApart earlier later) TurnsApart (λ later earlier apart_so. apart_so) (recorded_of known.history)
       (subst (λ (events : List Event). Pairwise (λ later earlier. TurnsApart earlier later) (recorded_of events)) (sym (history_of run history))
-      (turns_apart history (later-now run history) legal))))
+      (turns_apart history (later-now run history) orderly))))

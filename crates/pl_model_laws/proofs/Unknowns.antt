@@ -14,16 +14,21 @@ use Rattle.pl_events.specs.declared.operation.Op.{Op}
 use Rattle.pl_events.specs.declared.operation.Op.TheVariants as op
 use Rattle.pl_events.specs.declared.operation.Source.TheVariants as source
 use Rattle.pl_events.specs.declared.operation.Subject.TheVariants as subject
-use Rattle.pl_model.specs.Run.{Fixed, Pairs, Spelling, is_preview, is_refresh}
+use Rattle.pl_model.specs.declared.decided.Decided.{Decided}
+use Rattle.pl_model.specs.declared.errand.Closed.{Closed}
+use Rattle.pl_model.specs.declared.fixed.Fixed.{Fixed}
+use Rattle.pl_model.specs.declared.heard.Heard.{Heard}
+use Rattle.pl_model.specs.declared.work.Work.TheVariants.{Send as to_send}
+use Rattle.pl_model.specs.Run.{Pairs, is_preview, is_refresh}
 use Rattle.pl_model.specs.declared.mode.Mode.{Mode}
 use Rattle.pl_model.specs.declared.mode.Mode.TheVariants.{Up, Preview, Destroy, Refresh}
-use Rattle.pl_model.specs.Tickets.{Closed, answers_of, reply_to, same_op, was_begun}
-use Rattle.pl_model.specs.Claims.{Decided, numbered}
-use Rattle.pl_model.specs.Decisions.{Turn, checked_at, checked_in, decided_at, decided_by, diff_at, inputs_at, is_provider_unknown, needs_check, number_at, turn_in, turn_of, wants_diff}
-use Rattle.pl_model.specs.Due.{asks_check, asks_config, asks_diff, for_decided, has_unknown_provider, is_asked, is_carried_out, is_invoke, is_next_lane, is_placed, is_reading, is_ready_on, is_removable, is_unsent, op_of_decision, op_of_goal, passes_limit, provider_recorded, sends_goal, source_of_op, to_send, way_is_free}
+use Rattle.pl_model.specs.Tickets.{answers_of, reply_to, same_op, was_begun}
+use Rattle.pl_model.specs.Claims.{numbered}
+use Rattle.pl_model.specs.Decisions.{Turn, checked_at, checked_in, decided_at, decided_by, diff_at, has_unknown_inputs, inputs_at, is_provider_unknown, needs_check, number_at, turn_in, turn_of, wants_diff}
+use Rattle.pl_model.specs.Due.{asks_check, asks_config, asks_diff, for_decided, has_unknown_provider, is_asked, is_carried_out, is_invoke, is_next_lane, is_placed, is_reading, is_ready_on, is_removable, is_unsent, op_of_decision, op_of_goal, passes_limit, provider_recorded, sends_goal, source_of_op, way_is_free}
 use Rattle.pl_model.specs.History.{known_of}
-use Rattle.pl_model.specs.Known.{Asked, Known, asked_at, decided_goal, goal_at, has_problem, next_turn}
-use Rattle.pl_model.specs.Legal.{IsLegal, MayHappen}
+use Rattle.pl_model.specs.Known.{Known, asked_at, decided_goal, goal_at, has_problem, next_turn}
+use Rattle.pl_model.specs.Legal.{IsOrderly, MayHappen}
 use Rattle.pl_model.specs.Rows.{has_dependents, is_doomed, is_sent, source_of_goal, was_removed}
 use Rattle.pl_model_laws.proofs.Claiming.{was-made}
 use Rattle.pl_model_laws.proofs.Growing.{equal_numbers, goals-stay}
@@ -75,21 +80,10 @@ module _ (known : Known) (preview : is_preview known.run.mode ≡ true) where
       → is_unknown m ≡ false
   turn_known turn m next provider h =
       let parts = turn_parts known.run known.answers known.goals known.decided turn next in
-      let unknown : some_passes any_field_unknown (option_map (λ (one : Decided). one.checked)
-      (option_and_then (λ (number : ℕ). numbered turn.before number) turn.goal.provider)) ≡ false =
+      let unknown : has_unknown_inputs turn.before turn.goal.provider ≡ false =
       second_not (is_preview turn.run.mode) _ h (ap (λ (fixed : Fixed). is_preview fixed.mode) parts.0 ∙ preview) in
-      by (decided_goal known m) refl
-      (ap (λ (o : Option ℕ). some_passes any_field_unknown (option_map (λ (one : Decided). one.checked)
-      (option_and_then (λ (number : ℕ). numbered known.decided number) o))) (sym provider)
-      ∙ ap (λ (ones : List Decided). some_passes any_field_unknown (option_map (λ (one : Decided). one.checked)
-      (option_and_then (λ (number : ℕ). numbered ones number) turn.goal.provider))) (sym parts.1) ∙ unknown)
-    where
-      by : (o : Option Decided) → decided_goal known m ≡ o
-          → some_passes any_field_unknown (option_map (λ (one : Decided). one.checked) (decided_goal known m)) ≡ false → is_unknown m ≡ false
-      by None is h = rw is refl
-      by (Some one) is h =
-          ap (λ (o : Option Decided). some_passes (λ it. any_field_unknown it.checked) o) is
-          ∙ (sym (ap (λ (o : Option Decided). some_passes any_field_unknown (option_map (λ (it : Decided). it.checked) o)) is) ∙ h)
+      ap (λ (o : Option ℕ). has_unknown_inputs known.decided o) (sym provider)
+      ∙ ap (λ (ones : List Decided). has_unknown_inputs ones turn.goal.provider) (sym parts.1) ∙ unknown
 
   -- the goal's own number names its provider
   own_provider : (number m : ℕ) (goal : Goal) → goal_at known number ≡ Some goal → source_of_goal known number ≡ Some (source.Goal m)
@@ -149,12 +143,12 @@ module _ (known : Known) (preview : is_preview known.run.mode ≡ true) where
   source_named (Some own) m h = ap (λ (n : ℕ). Some n) (let e : Some (source.Goal own) ≡ Some (source.Goal m) = h in cc)
 
   invoked_known : (n m : ℕ) → some_passes (λ asked. is_invoke known asked.request asked.about) (asked_at known n) ≡ true
-      → option_map source.Goal (option_and_then (λ (asked : Asked). asked.about) (asked_at known n)) ≡ Some (source.Goal m) → is_unknown m ≡ false
+      → option_map source.Goal (option_and_then (λ (asked : Heard). asked.about) (asked_at known n)) ≡ Some (source.Goal m) → is_unknown m ≡ false
   invoked_known n m h is =
       let asked = passes_some (λ asked. is_invoke known asked.request asked.about) (asked_at known n) h in
       invoke_known asked.0.request asked.0.about m asked.2
       (source_named asked.0.about m
-      (sym (ap (λ (o : Option Asked). option_map source.Goal (option_and_then (λ (one : Asked). one.about) o)) asked.1) ∙ is))
+      (sym (ap (λ (o : Option Heard). option_map source.Goal (option_and_then (λ (one : Heard). one.about) o)) asked.1) ∙ is))
 
   -- what only a run that is no preview asks
   never_asked : (m : ℕ) → is_preview known.run.mode ≡ false → is_unknown m ≡ false
@@ -210,11 +204,11 @@ check_due known number lane ready =
       and_right (number_at turn.0 == number) (asks_config turn.0) turn.2,
     )
 
-module _ (run : Fixed) (spelling : Spelling) (number : ℕ) where
+module _ (run : Fixed) (number : ℕ) where
   abbrev check : Op
   check = op.CheckConfig (subject.Goal number)
 
-  check_step : (past : List Event) (seat : ℕ) (what : What) → MayHappen spelling (known_of run past) seat what
+  check_step : (past : List Event) (seat : ℕ) (what : What) → MayHappen (known_of run past) seat what
       → was_begun (record { seat = seat; what = what } ∷ past) check ≡ true
       → (was_begun past check ≡ true → IsProviderThere run past number) → IsProviderThere run past number
   check_step past seat (Begun ticket lane about) may begun rest = by (same_op about check) refl begun
@@ -227,10 +221,10 @@ module _ (run : Fixed) (spelling : Spelling) (number : ℕ) where
   check_step past seat _ may begun rest = rest begun
 
   -- a goal for which a provider's inputs were checked is a provider
-  pub check-provider : (history : List Event) → IsLegal run spelling history → was_begun history check ≡ true → IsProviderThere run history number
-  check-provider [] legal begun = absurd (let e : false ≡ true = begun in cc)
-  check-provider (event ∷ past) legal begun =
-      let there = check_step past event.seat event.what legal.1 begun (check-provider past legal.0) in
+  pub check-provider : (history : List Event) → IsOrderly run history → was_begun history check ≡ true → IsProviderThere run history number
+  check-provider [] orderly begun = absurd (let e : false ≡ true = begun in cc)
+  check-provider (event ∷ past) orderly begun =
+      let there = check_step past event.seat event.what orderly.1 begun (check-provider past orderly.0) in
       (there.0, goals-stay run event past number there.0 there.1, there.2)
 
 -- ---- what is decided of a provider

@@ -15,8 +15,11 @@ use Rattle.pl_events.specs.declared.operation.Op.TheVariants as op
 use Rattle.pl_events.specs.declared.operation.Subject.TheVariants as subject
 use Rattle.pl_events.specs.declared.reply.Reply.{Reply}
 use Rattle.pl_events.specs.declared.reply.Reply.TheVariants.{Checked, Diffed as DiffedReply}
-use Rattle.pl_model.specs.Run.{Fixed, Pairs, is_refresh, rows_of}
-use Rattle.pl_model.specs.Claims.{Decided, is_claimed, is_row, numbered}
+use Rattle.pl_model.specs.declared.decided.Decided.{Decided}
+use Rattle.pl_model.specs.declared.errand.Closed.{Closed}
+use Rattle.pl_model.specs.declared.fixed.Fixed.{Fixed}
+use Rattle.pl_model.specs.Run.{Pairs, is_refresh, rows_of}
+use Rattle.pl_model.specs.Claims.{is_claimed, is_row, numbered}
 use Rattle.pl_decide.specs.declared.decision.Decision.{Decision}
 use Rattle.pl_decide.specs.declared.decision.Decision.TheVariants as decision
 use Rattle.pl_decide.specs.declared.decision.ProviderChange.{ProviderChange}
@@ -27,8 +30,8 @@ use Rattle.pl_model.specs.History.{known_of}
 use Rattle.pl_model.specs.Known.{Known, decided_goal, goal_at, is_over}
 use Rattle.pl_model.specs.Recording.{goal_of_op, has_number}
 use Rattle.pl_model.specs.Rows.{is_doomed, is_left, is_target, row_numbers, source_of_goal, takes_along}
-use Rattle.pl_model.specs.Tickets.{Closed, answers_of, reply_to, same_op, was_begun}
-use Rattle.pl_model_laws.specs.Quiet.{tells_success}
+use Rattle.pl_model.specs.Tickets.{answers_of, reply_to, same_op, was_begun}
+use Rattle.pl_events.specs.Replies.{tells_success}
 use Rattle.pl_model_laws.proofs.Claiming.{was-made}
 use Rattle.pl_model_laws.proofs.Configuring.{replied-begun}
 use Rattle.pl_model_laws.proofs.Growing.{numbered_below, numbered_more, or_true, run_of, same_number}

@@ -3,7 +3,7 @@ use Rattle.std.proofs.Common.{◌≡◌, Bool, true, false, ◌&&◌, List, [], 
 use Rattle.std.specs.List.{flat_map, list_all, list_any}
 use Rattle.pl_reference.specs.declared.reference.ProviderRef.{ProviderRef}
 use Rattle.pl_state.specs.References.{finds_references, has_urn, is_among, is_provider, meets, names_row, optional_refs, option_list, property_urns, refs}
-use Rattle.pl_state.specs.Sound.{is_met}
+use Rattle.pl_sound.specs.Sound.{is_met}
 use Rattle.pl_state.specs.declared.entry.Entry.{Entry}
 use Rattle.pl_state.specs.declared.fault.Missing.{Missing}
 use Rattle.pl_state.specs.declared.fault.Missing.TheVariants.{Twice, Parent, Provider, Dependency, DeletedWith}

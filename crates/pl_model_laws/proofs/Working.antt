@@ -8,7 +8,9 @@ use Rattle.pl_events.specs.declared.operation.Source.TheVariants as source
 use Rattle.pl_events.specs.declared.operation.Subject.TheVariants as subject
 use Rattle.pl_model.specs.Run.{rows_of}
 use Rattle.pl_model.specs.Tickets.{lane_count, same_op}
-use Rattle.pl_model.specs.Due.{IsQuiet, Work, all_sends, checks_of, configures_of, deletes_of, goal_numbers, imports_read, invokes_of, is_drop_ready, is_due, is_keep_ready, is_next_lane, is_over_limit, is_ready, is_ready_on, is_ready_op, is_wanted_op, operations_of, passes_limit, pending_numbers, reads_of, request_numbers, sends_of, to_clear, to_drop, to_keep, to_post, to_send, works_of}
+use Rattle.pl_model.specs.declared.work.Work.{Work}
+use Rattle.pl_model.specs.declared.work.Work.TheVariants.{Clear as to_clear, Drop as to_drop, Keep as to_keep, Post as to_post, Send as to_send}
+use Rattle.pl_model.specs.Due.{IsQuiet, all_sends, checks_of, configures_of, deletes_of, goal_numbers, imports_read, invokes_of, is_drop_ready, is_due, is_keep_ready, is_next_lane, is_over_limit, is_ready, is_ready_on, is_ready_op, is_wanted_op, operations_of, passes_limit, pending_numbers, reads_of, request_numbers, sends_of, works_of}
 use Rattle.pl_model.specs.Known.{Known, has_problem}
 use Rattle.pl_model.specs.Rows.{row_numbers}
 use Rattle.pl_model_laws.proofs.Freed.{range_lacks}

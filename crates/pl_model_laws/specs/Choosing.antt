@@ -1,18 +1,20 @@
 -- Laws on the choice of work and of lanes: what is chosen is due, and a table of lanes that tells the lanes decides it.
 use Rattle.std.specs.Prelude.{◌≡◌, ◌<◌, ℕ, Bool, true, false, not, ◌&&◌, All, None, Some, is_some, if◌then◌else◌, List, option_and_then}
 use Rattle.std.specs.Bool.{Decides}
+use Rattle.pl_events.specs.Lanes.{LanesTold}
 use Rattle.pl_events.specs.declared.event.Event.{Event}
 use Rattle.pl_events.specs.declared.operation.Op.{Op}
 use Rattle.pl_events.specs.declared.operation.Op.TheVariants as op
 use Rattle.pl_events.specs.declared.operation.Source.{Source}
-use Rattle.pl_model.specs.Run.{Fixed, Spelling}
-use Rattle.pl_model.specs.Choice.{LaneTable, TellsLanes, first_taken, is_too_many, lane_for, lane_there}
-use Rattle.pl_model.specs.Due.{Work, to_post, to_send, due_work, first_due, is_checked_lane, is_due, is_due_on, is_wanted_op, passes_limit, source_of_op, wants_lane}
+use Rattle.pl_model.specs.declared.fixed.Fixed.{Fixed}
+use Rattle.pl_model.specs.declared.work.Work.{Work}
+use Rattle.pl_model.specs.declared.work.Work.TheVariants.{Post as to_post, Send as to_send}
+use Rattle.pl_model.specs.Choice.{TellsLanes, first_taken, is_too_many, lane_for, lane_there}
+use Rattle.pl_model.specs.Due.{due_work, first_due, is_checked_lane, is_due, is_due_on, is_wanted_op, passes_limit, source_of_op, wants_lane}
 use Rattle.pl_model.specs.History.{known_of}
 use Rattle.pl_model.specs.Known.{Known, has_problem}
-use Rattle.pl_model.specs.Legal.{IsLegal, MayBeTooMany}
+use Rattle.pl_model.specs.Legal.{IsOrderly, MayBeTooMany}
 use Rattle.pl_model.specs.Tickets.{lane_count}
-use Rattle.pl_model_laws.specs.Quiet.{RepliesFit}
 
 -- ---- lanes
 
@@ -33,8 +35,8 @@ LaneThereLeast = (known : Known) (about : Op) (lane : ℕ) → lane_there known 
 
 -- while a lane of a provider is to be configured where its inputs were checked, no new lane of it is wanted
 abbrev pub CheckedOrNew : Type 0
-CheckedOrNew = (run : Fixed) (spelling : Spelling) (history : List Event) (wanted : Source) (lane : ℕ)
-    → RepliesFit spelling → IsLegal run spelling history → is_checked_lane (known_of run history) wanted lane ≡ true
+CheckedOrNew = (run : Fixed) (history : List Event) (wanted : Source) (lane : ℕ)
+    → IsOrderly run history → is_checked_lane (known_of run history) wanted lane ≡ true
     → wants_lane (known_of run history) wanted ≡ false
 
 -- whether an operation is sent to a lane that is there: it is neither a check of a provider's inputs nor a
@@ -47,13 +49,13 @@ uses_lane _ = true
 -- a table that tells the lanes tells the lane there is that an operation goes to: the free one of its source, if the
 -- operation is due
 abbrev pub TableTells : Type 0
-TableTells = (known : Known) (table : LaneTable) (about : Op) (wanted : Source) → TellsLanes table known
+TableTells = (known : Known) (table : LanesTold) (about : Op) (wanted : Source) → TellsLanes table known
     → uses_lane about ≡ true → source_of_op known about ≡ Some wanted
     → lane_there known about ≡ (if is_due known (to_send about) then table.free wanted else None)
 
 -- and whether the operation is due: it is wanted, its source has a free lane, and it does not pass the limit
 abbrev pub TableDecides : Type 0
-TableDecides = (known : Known) (table : LaneTable) (about : Op) → TellsLanes table known → uses_lane about ≡ true
+TableDecides = (known : Known) (table : LanesTold) (about : Op) → TellsLanes table known → uses_lane about ≡ true
     → is_due known (to_send about)
     ≡ (not (has_problem known) && is_wanted_op known about && is_some (option_and_then table.free (source_of_op known about))
     && not (passes_limit known (to_send about)))

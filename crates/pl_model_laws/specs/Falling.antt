@@ -3,10 +3,10 @@ use Rattle.std.specs.Prelude.{◌≡◌, ◌<◌, ◌≤◌, Bool, true, false, 
 use Rattle.pl_events.specs.declared.event.Event.{Event}
 use Rattle.pl_events.specs.declared.event.What.{What}
 use Rattle.pl_events.specs.declared.event.What.TheVariants.{Told, Begun, Kept, Dropped, Cleared, Posted}
-use Rattle.pl_model.specs.Run.{Fixed, Spelling}
+use Rattle.pl_model.specs.declared.fixed.Fixed.{Fixed}
 use Rattle.pl_model.specs.History.{known_of}
 use Rattle.pl_model.specs.Left.{left_of}
-use Rattle.pl_model.specs.Legal.{IsLegal}
+use Rattle.pl_model.specs.Legal.{IsOrderly}
 
 -- whether an event is a piece of work
 abbrev pub is_work : What → Bool
@@ -23,8 +23,8 @@ is_told _ = false
 
 -- with each piece of work less is left
 abbrev pub LeftFalls : Type 0
-LeftFalls = (run : Fixed) (spelling : Spelling) (event : Event) (past : List Event)
-    → 0 < run.parallel → IsLegal run spelling (event ∷ past) → is_work event.what ≡ true
+LeftFalls = (run : Fixed) (event : Event) (past : List Event)
+    → 0 < run.parallel → IsOrderly run (event ∷ past) → is_work event.what ≡ true
     → left_of (known_of run (event ∷ past)) < left_of (known_of run past)
 
 -- and no more is left with an event that tells no request

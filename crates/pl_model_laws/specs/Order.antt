@@ -6,35 +6,36 @@ use Rattle.pl_events.specs.declared.event.Event.{Event}
 use Rattle.pl_events.specs.declared.operation.Op.{Op}
 use Rattle.pl_events.specs.declared.operation.Op.TheVariants as op
 use Rattle.pl_events.specs.declared.operation.Subject.TheVariants as subject
-use Rattle.pl_model.specs.Run.{Fixed, Spelling, rows_of}
+use Rattle.pl_model.specs.declared.fixed.Fixed.{Fixed}
+use Rattle.pl_model.specs.Run.{rows_of}
 use Rattle.pl_model.specs.Due.{references_recorded}
 use Rattle.pl_model.specs.History.{known_of}
 use Rattle.pl_model.specs.Known.{goal_at}
-use Rattle.pl_model.specs.Legal.{IsLegal}
+use Rattle.pl_model.specs.Legal.{IsOrderly}
 use Rattle.pl_model.specs.Recording.{goal_of_op, has_number, recorded_by, removed_of}
 use Rattle.pl_model.specs.Rows.{is_left}
 use Rattle.pl_model.specs.Tickets.{was_begun}
 
 -- what makes, changes or reads a goal's thing is begun only once the goals of its references are recorded
 abbrev pub SentAfterReferences : Type 0
-SentAfterReferences = (run : Fixed) (spelling : Spelling) (history : List Event) (about : Op) (number : ℕ) (goal : Goal)
-    → IsLegal run spelling history → was_begun history about ≡ true → goal_of_op about ≡ Some number
+SentAfterReferences = (run : Fixed) (history : List Event) (about : Op) (number : ℕ) (goal : Goal)
+    → IsOrderly run history → was_begun history about ≡ true → goal_of_op about ≡ Some number
     → goal_at (known_of run history) number ≡ Some goal → references_recorded (known_of run history) goal ≡ true
 
 -- a goal is recorded after the goals of its references
 abbrev pub RecordedAfterReferences : Type 0
-RecordedAfterReferences = (run : Fixed) (spelling : Spelling) (event : Event) (past : List Event) (number : ℕ) (goal : Goal)
-    → IsLegal run spelling (event ∷ past) → recorded_by past event.what ≡ Some number
+RecordedAfterReferences = (run : Fixed) (event : Event) (past : List Event) (number : ℕ) (goal : Goal)
+    → IsOrderly run (event ∷ past) → recorded_by past event.what ≡ Some number
     → goal_at (known_of run past) number ≡ Some goal → references_recorded (known_of run past) goal ≡ true
 
 -- no deletion is begun while a later row that refers to the deleted one is left
 abbrev pub DeletedAfterDependents : Type 0
-DeletedAfterDependents = (run : Fixed) (spelling : Spelling) (history : List Event) (later earlier : ℕ)
-    → IsLegal run spelling history → refers_to (rows_of run) later earlier ≡ true
+DeletedAfterDependents = (run : Fixed) (history : List Event) (later earlier : ℕ)
+    → IsOrderly run history → refers_to (rows_of run) later earlier ≡ true
     → is_left (known_of run history) later ≡ true → was_begun history (op.Delete (subject.Row earlier)) ≡ false
 
 -- no row is deleted or dropped while a later row that refers to it is left
 abbrev pub GoneAfterDependents : Type 0
-GoneAfterDependents = (run : Fixed) (spelling : Spelling) (history : List Event) (later earlier : ℕ)
-    → IsLegal run spelling history → refers_to (rows_of run) later earlier ≡ true
+GoneAfterDependents = (run : Fixed) (history : List Event) (later earlier : ℕ)
+    → IsOrderly run history → refers_to (rows_of run) later earlier ≡ true
     → is_left (known_of run history) later ≡ true → has_number (removed_of history) earlier ≡ false

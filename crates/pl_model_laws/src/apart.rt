@@ -1,11 +1,11 @@
 ghost use Rattle.pl_model_laws.specs.Apart.{GoalsApart, StatesApart, TurnedOnce};
 
-/// The law that no two goals of a legal history have the same URN.
+/// The law that no two goals of an orderly history have the same URN.
 pub fn goals_apart()
     ensures { GoalsApart }
 {}
 
-/// The law that in the state of a legal history no two rows that are not to be deleted have the same URN.
+/// The law that in the state of an orderly history no two rows that are not to be deleted have the same URN.
 pub fn states_apart()
     ensures { StatesApart }
 {}

@@ -20,17 +20,17 @@ pub fn requests_stay()
     ensures { RequestsStay }
 {}
 
-/// The law that a ticket is closed at most once in a legal history.
+/// The law that a ticket is closed at most once in an orderly history.
 pub fn closed_once()
     ensures { ClosedOnce }
 {}
 
-/// The law that a legal history begins no operation twice, but that each lane of a provider is configured.
+/// The law that an orderly history begins no operation twice, but that each lane of a provider is configured.
 pub fn begun_once()
     ensures { BegunOnce }
 {}
 
-/// The law that a legal history records no goal twice.
+/// The law that an orderly history records no goal twice.
 pub fn recorded_once()
     ensures { RecordedOnce }
 {}

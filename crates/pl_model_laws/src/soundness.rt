@@ -1,7 +1,7 @@
 ghost use Rattle.pl_model_laws.specs.Covered.{BegunCovered};
 ghost use Rattle.pl_model_laws.specs.Soundness.{StatesSound};
 
-/// The law that the state of a legal history is sound where the state at the start is.
+/// The law that the state of an orderly history is sound where the state at the start is.
 pub fn states_sound()
     ensures { StatesSound }
 {}

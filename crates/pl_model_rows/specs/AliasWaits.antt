@@ -6,7 +6,7 @@ use Rattle.pl_state.specs.declared.entry.Entry.{Entry}
 use Rattle.pl_state.specs.declared.goal.Registration.{Registration}
 use Rattle.pl_events.specs.declared.event.Event.{Event}
 use Rattle.pl_events.specs.declared.reply.Reply.TheVariants as reply
-use Rattle.pl_model.specs.Run.{Fixed}
+use Rattle.pl_model.specs.declared.fixed.Fixed.{Fixed}
 use Rattle.pl_model.specs.declared.mode.Mode.TheVariants.{Up}
 use Rattle.pl_model_rows.specs.CreateFirst.{old_a}
 use Rattle.pl_model_rows.specs.Pieces.{a_urn, b_urn, begins, changed, checks_inputs, compares, creates, deletes, fixed_at, k_one, keeps, no_change, opening, posts, provider_entry, registers, replies, run_over, stack_entry, thing, thing_told, thing_urn}

@@ -6,7 +6,7 @@ use Rattle.pl_state.specs.declared.goal.Registration.{Registration}
 use Rattle.pl_state.specs.declared.pending.Pending.{Pending}
 use Rattle.pl_events.specs.declared.event.Event.{Event}
 use Rattle.pl_events.specs.declared.reply.Reply.TheVariants as reply
-use Rattle.pl_model.specs.Run.{Fixed}
+use Rattle.pl_model.specs.declared.fixed.Fixed.{Fixed}
 use Rattle.pl_model.specs.declared.mode.Mode.TheVariants.{Up}
 use Rattle.pl_model_rows.specs.Pieces.{a_urn, begins, changed, checks_inputs, checks_provider, compares, configures, creates, creating, deletes, deleting, fixed_at, host_done, k_one, keeps, new_thing, no_change, posts, provider_entry, registers, replies, run_over, stack_entry, stack_told, thing, thing_told}
 

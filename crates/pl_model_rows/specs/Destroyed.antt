@@ -5,7 +5,7 @@ use Rattle.pl_state.specs.declared.entry.Entry.{Entry}
 use Rattle.pl_state.specs.declared.pending.Pending.{Pending}
 use Rattle.pl_events.specs.declared.event.Event.{Event}
 use Rattle.pl_events.specs.declared.reply.Reply.TheVariants as reply
-use Rattle.pl_model.specs.Run.{Fixed}
+use Rattle.pl_model.specs.declared.fixed.Fixed.{Fixed}
 use Rattle.pl_model.specs.declared.mode.Mode.TheVariants.{Destroy}
 use Rattle.pl_model_rows.specs.Pieces.{begins, configures_row, deletes, deleting, drops, k_one, provider_entry, replies, run_over, stack_entry, thing}
 

@@ -1,7 +1,7 @@
 -- Everything is deleted where a thing's replacement is pending: the thing itself was deleted before.
 use Rattle.std.specs.Prelude.{false, List, [], ◌∷◌}
 use Rattle.pl_events.specs.declared.event.Event.{Event}
-use Rattle.pl_model.specs.Run.{Fixed}
+use Rattle.pl_model.specs.declared.fixed.Fixed.{Fixed}
 use Rattle.pl_model.specs.declared.mode.Mode.TheVariants.{Destroy, Refresh, Up}
 use Rattle.pl_model_rows.specs.Pieces.{drops, host_done, keeps, posts, registers, run_over, stack_told}
 use Rattle.pl_model_rows.specs.Resumed.{halfway}

@@ -4,7 +4,7 @@ use Rattle.pl_state.specs.declared.entry.Entry.{Entry}
 use Rattle.pl_events.specs.declared.event.Event.{Event}
 use Rattle.pl_events.specs.declared.reply.Reply.TheVariants as reply
 use Rattle.pl_decide.specs.declared.limits.Limits.{Limits}
-use Rattle.pl_model.specs.Run.{Fixed}
+use Rattle.pl_model.specs.declared.fixed.Fixed.{Fixed}
 use Rattle.pl_model.specs.declared.mode.Mode.TheVariants.{Destroy}
 use Rattle.pl_model_rows.specs.Pieces.{begins, configures_row, deletes, drops, k_one, provider_entry, replies, run_over, stack_entry, thing, thing_urn}
 

@@ -4,7 +4,7 @@ use Rattle.pl_state.specs.declared.entry.Entry.{Entry}
 use Rattle.pl_state.specs.declared.goal.Registration.{Registration}
 use Rattle.pl_events.specs.declared.event.Event.{Event}
 use Rattle.pl_events.specs.declared.reply.Reply.TheVariants as reply
-use Rattle.pl_model.specs.Run.{Fixed}
+use Rattle.pl_model.specs.declared.fixed.Fixed.{Fixed}
 use Rattle.pl_model.specs.declared.mode.Mode.TheVariants.{Up}
 use Rattle.pl_model_rows.specs.Pieces.{begins, checks_inputs, first_opening, host_done, k_one, posts, reads_goal, replies, run_over, thing, thing_told}
 

@@ -4,7 +4,7 @@ use Rattle.pl_state.specs.Component.{component_entry, plain_registration}
 use Rattle.pl_state.specs.declared.entry.Entry.{Entry}
 use Rattle.pl_state.specs.declared.goal.Registration.{Registration}
 use Rattle.pl_events.specs.declared.event.Event.{Event}
-use Rattle.pl_model.specs.Run.{Fixed}
+use Rattle.pl_model.specs.declared.fixed.Fixed.{Fixed}
 use Rattle.pl_model.specs.declared.mode.Mode.TheVariants.{Up}
 use Rattle.pl_model_rows.specs.Pieces.{host_done, keeps, k_one, posts, registers, run_over, stack_told, stack_urn, tells_outputs}
 

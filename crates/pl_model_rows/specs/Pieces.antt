@@ -22,7 +22,7 @@ use Rattle.pl_events.specs.declared.reply.Loss.TheVariants.{Ended}
 use Rattle.pl_events.specs.declared.reply.Reply.{Reply}
 use Rattle.pl_events.specs.declared.reply.Reply.TheVariants as reply
 use Rattle.pl_decide.specs.declared.limits.Limits.{Limits}
-use Rattle.pl_model.specs.Run.{Fixed}
+use Rattle.pl_model.specs.declared.fixed.Fixed.{Fixed}
 use Rattle.pl_model.specs.declared.mode.Mode.{Mode}
 
 -- ---- names

@@ -10,9 +10,10 @@ use Rattle.pl_events.specs.declared.event.What.TheVariants.{Begun}
 use Rattle.pl_events.specs.declared.operation.Ask.{Ask}
 use Rattle.pl_events.specs.declared.operation.Op.{Op}
 use Rattle.pl_decide.specs.declared.decision.Decision.{Decision}
-use Rattle.pl_model.specs.Run.{Fixed}
+use Rattle.pl_model.specs.declared.fixed.Fixed.{Fixed}
+use Rattle.pl_model.specs.declared.work.Work.{Work}
 use Rattle.pl_model.specs.Asked.{ask_of}
-use Rattle.pl_model.specs.Due.{Work, due_work, first_due, is_due_on}
+use Rattle.pl_model.specs.Due.{due_work, first_due, is_due_on}
 use Rattle.pl_model.specs.History.{known_of}
 use Rattle.pl_model.specs.Known.{Known, asked_at, decided_goal}
 use Rattle.pl_model.specs.Posts.{answer_for}

@@ -6,7 +6,7 @@ use Rattle.pl_state.specs.Component.{plain_registration}
 use Rattle.pl_state.specs.declared.goal.Registration.{Registration}
 use Rattle.pl_events.specs.declared.event.Event.{Event}
 use Rattle.pl_events.specs.declared.reply.Reply.TheVariants as reply
-use Rattle.pl_model.specs.Run.{Fixed}
+use Rattle.pl_model.specs.declared.fixed.Fixed.{Fixed}
 use Rattle.pl_model.specs.declared.mode.Mode.{Mode}
 use Rattle.pl_model_rows.specs.CreateFirst.{b_told}
 use Rattle.pl_model_rows.specs.Pieces.{begins, checks_inputs, checks_provider, creates, first_id, first_opening, host_done, k_one, keeps, keeps_with, one_field, posts, provider_type, registers, replies, run_over, stack_told, tells_invoke, thing_told}

@@ -6,7 +6,7 @@ use Rattle.pl_state.specs.declared.pending.Pending.{Pending}
 use Rattle.pl_events.specs.declared.event.Event.{Event}
 use Rattle.pl_events.specs.declared.reply.Reply.{Reply}
 use Rattle.pl_events.specs.declared.reply.Reply.TheVariants as reply
-use Rattle.pl_model.specs.Run.{Fixed}
+use Rattle.pl_model.specs.declared.fixed.Fixed.{Fixed}
 use Rattle.pl_model.specs.declared.mode.Mode.TheVariants.{Refresh}
 use Rattle.pl_model_rows.specs.Pieces.{a_urn, begins, clears, configures_row, creating, deleting, k_one, new_thing, provider_entry, reads, reads_pending, replies, run_over, stack_entry, thing, thing_urn}
 

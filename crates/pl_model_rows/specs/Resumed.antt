@@ -5,7 +5,7 @@ use Rattle.pl_state.specs.declared.entry.Entry.{Entry}
 use Rattle.pl_state.specs.declared.goal.Registration.{Registration}
 use Rattle.pl_events.specs.declared.event.Event.{Event}
 use Rattle.pl_events.specs.declared.reply.Reply.TheVariants as reply
-use Rattle.pl_model.specs.Run.{Fixed}
+use Rattle.pl_model.specs.declared.fixed.Fixed.{Fixed}
 use Rattle.pl_model.specs.declared.mode.Mode.TheVariants.{Up}
 use Rattle.pl_model_rows.specs.CreateFirst.{old_a}
 use Rattle.pl_model_rows.specs.Pieces.{begins, changed, checks_inputs, compares, creates, deletes, fixed_at, host_done, opening, posts, provider_entry, replies, run_over, stack_entry, thing_told}

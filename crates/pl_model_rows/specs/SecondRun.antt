@@ -3,7 +3,7 @@ use Rattle.std.specs.Prelude.{Some, List, [], ◌∷◌, codes}
 use Rattle.pl_state.specs.declared.entry.Entry.{Entry}
 use Rattle.pl_events.specs.declared.event.Event.{Event}
 use Rattle.pl_events.specs.declared.reply.Reply.TheVariants as reply
-use Rattle.pl_model.specs.Run.{Fixed}
+use Rattle.pl_model.specs.declared.fixed.Fixed.{Fixed}
 use Rattle.pl_model.specs.declared.mode.Mode.TheVariants.{Up}
 use Rattle.pl_model_rows.specs.FirstCreate.{a_told, entries}
 use Rattle.pl_model_rows.specs.Pieces.{begins, checks_inputs, checks_provider, compares, configures, host_done, k_one, keeps, no_change, posts, provider_entry, registers, replies, run_over, stack_entry, stack_told, unread}

@@ -5,7 +5,7 @@ use Rattle.pl_state.specs.declared.entry.Entry.{Entry}
 use Rattle.pl_state.specs.declared.pending.Pending.{Pending}
 use Rattle.pl_events.specs.declared.event.Event.{Event}
 use Rattle.pl_events.specs.declared.reply.Reply.TheVariants as reply
-use Rattle.pl_model.specs.Run.{Fixed}
+use Rattle.pl_model.specs.declared.fixed.Fixed.{Fixed}
 use Rattle.pl_model.specs.declared.mode.Mode.TheVariants.{Up}
 use Rattle.pl_model_rows.specs.Pieces.{at_seat, begins, checks_inputs, configures, creates, creating, first_opening, host_done, invokes, k_at, k_one, new_thing, posts, registers, replies, run_over, tells_invoke, thing, thing_told}
 

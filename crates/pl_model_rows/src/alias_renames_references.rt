@@ -3,7 +3,8 @@
 ghost use Rattle.std.specs.Prelude.{◌≡◌, [], ◌∷◌, codes, false, None, Some};
 ghost use Rattle.pl_events.specs.declared.event.Answer.{Answer};
 ghost use Rattle.pl_events.specs.declared.operation.Ask.{Ask};
-ghost use Rattle.pl_model.specs.Due.{has_open, over_limit, to_keep, to_post, to_send};
+ghost use Rattle.pl_model.specs.declared.work.Work.TheVariants.{Keep as to_keep, Post as to_post, Send as to_send};
+ghost use Rattle.pl_model.specs.Due.{has_open, over_limit};
 ghost use Rattle.pl_model.specs.Entries.{turned_entry};
 ghost use Rattle.pl_model.specs.Known.{claim_of};
 ghost use Rattle.pl_model.specs.Plan.{plan_by};

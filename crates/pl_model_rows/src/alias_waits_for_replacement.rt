@@ -4,7 +4,7 @@
 ghost use Rattle.std.specs.Prelude.{◌≡◌, [], ◌∷◌, codes, None, Some};
 ghost use Rattle.pl_decide.specs.declared.decision.Decision.{Decision};
 ghost use Rattle.pl_decide.specs.declared.problem.Problem.{Problem};
-ghost use Rattle.pl_model.specs.Due.{to_keep, to_post, to_send};
+ghost use Rattle.pl_model.specs.declared.work.Work.TheVariants.{Keep as to_keep, Post as to_post, Send as to_send};
 ghost use Rattle.pl_model.specs.Plan.{plan_by};
 ghost use Rattle.pl_model_rows.specs.AliasWaits.{c_urn, d_on, events, failing, halfway, new_a, new_c, old_b, resumed, resuming, run};
 ghost use Rattle.pl_model_rows.specs.Pieces.{a_urn, b_urn, checks_inputs, compares, creates, deletes, provider_entry, provider_urn, stack_entry, stack_urn, state_with, thing_urn};

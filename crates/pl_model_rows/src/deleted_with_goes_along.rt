@@ -2,7 +2,7 @@
 
 ghost use Rattle.std.specs.Prelude.{◌≡◌, [], ◌∷◌, codes, None, Some, true};
 ghost use Rattle.pl_events.specs.declared.operation.Ask.{Ask};
-ghost use Rattle.pl_model.specs.Due.{to_drop, to_send};
+ghost use Rattle.pl_model.specs.declared.work.Work.TheVariants.{Drop as to_drop, Send as to_send};
 ghost use Rattle.pl_model.specs.Plan.{plan_by};
 ghost use Rattle.pl_model.specs.Rows.{is_sent};
 ghost use Rattle.pl_model_rows.specs.GoesAlong.{events, of_y_alone, run, without_provider, x_entry, x_urn};

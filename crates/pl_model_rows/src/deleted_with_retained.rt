@@ -2,7 +2,7 @@
 
 ghost use Rattle.std.specs.Prelude.{◌≡◌, [], ◌∷◌, codes, None, Some};
 ghost use Rattle.pl_events.specs.declared.operation.Ask.{Ask};
-ghost use Rattle.pl_model.specs.Due.{to_drop, to_send};
+ghost use Rattle.pl_model.specs.declared.work.Work.TheVariants.{Drop as to_drop, Send as to_send};
 ghost use Rattle.pl_model_rows.specs.Pieces.{configures_row, deletes, k_one, provider_entry, stack_entry, state_with, thing_urn};
 ghost use Rattle.pl_model_rows.specs.Prefixes.{asks_of, choices_of, known_end, marks_of, state_at};
 ghost use Rattle.pl_model_rows.specs.RetainedDeleter.{events, run, x_retained};

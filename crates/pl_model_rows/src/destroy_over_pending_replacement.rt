@@ -1,7 +1,7 @@
 //! Everything is deleted where a replacement is pending: the thing is gone already.
 
 ghost use Rattle.std.specs.Prelude.{◌≡◌, [], ◌∷◌, None, Some};
-ghost use Rattle.pl_model.specs.Due.{to_drop};
+ghost use Rattle.pl_model.specs.declared.work.Work.TheVariants.{Drop as to_drop};
 ghost use Rattle.pl_model_rows.specs.DestroyedHalfway.{events, leaving, read_anew, run, without_thing};
 ghost use Rattle.pl_model_rows.specs.Pieces.{stack_entry, state_with};
 ghost use Rattle.pl_model_rows.specs.Prefixes.{asks_of, choices_of, due_at, known_end, marks_of, state_at};

@@ -3,7 +3,8 @@
 ghost use Rattle.std.specs.Prelude.{◌≡◌, [], ◌∷◌, codes, false, None, Some, true};
 ghost use Rattle.pl_events.specs.declared.operation.Ask.{Ask};
 ghost use Rattle.pl_decide.specs.declared.problem.Problem.{Problem};
-ghost use Rattle.pl_model.specs.Due.{has_open, over_limit, to_drop, to_send};
+ghost use Rattle.pl_model.specs.declared.work.Work.TheVariants.{Drop as to_drop, Send as to_send};
+ghost use Rattle.pl_model.specs.Due.{has_open, over_limit};
 ghost use Rattle.pl_model.specs.Plan.{plan_by};
 ghost use Rattle.pl_model_rows.specs.Destroyed.{events, half_made, hindered, run, x_deleting};
 ghost use Rattle.pl_model_rows.specs.Pieces.{configures_row, deletes, k_one, provider_entry, provider_urn, stack_entry, stack_urn, state_with, thing_urn};

@@ -3,7 +3,8 @@
 ghost use Rattle.std.specs.Prelude.{◌≡◌, [], ◌∷◌, codes, false, Some, true};
 ghost use Rattle.pl_events.specs.declared.event.Answer.{Answer};
 ghost use Rattle.pl_events.specs.declared.operation.Ask.{Ask};
-ghost use Rattle.pl_model.specs.Due.{has_open, to_post, to_send};
+ghost use Rattle.pl_model.specs.declared.work.Work.TheVariants.{Post as to_post, Send as to_send};
+ghost use Rattle.pl_model.specs.Due.{has_open};
 ghost use Rattle.pl_model_rows.specs.FirstCreate.{a_creating, a_entry};
 ghost use Rattle.pl_model_rows.specs.Pieces.{configures, invokes, k_at, provider_entry, stack_entry, state_with};
 ghost use Rattle.pl_model_rows.specs.Prefixes.{answer_at, ask_at, due_at, due_on_at, known_end, marks_of, state_at};

@@ -4,8 +4,9 @@ ghost use Rattle.std.specs.Prelude.{◌≡◌, [], ◌∷◌, codes, false, None
 ghost use Rattle.pl_events.specs.declared.event.Answer.{Answer};
 ghost use Rattle.pl_events.specs.declared.event.Request.{Request};
 ghost use Rattle.pl_decide.specs.declared.problem.Problem.{Problem};
-ghost use Rattle.pl_model.specs.Due.{has_open, over_limit, to_keep, to_post};
-ghost use Rattle.pl_model.specs.Known.{accepted, refused};
+ghost use Rattle.pl_model.specs.declared.heard.Fate.TheVariants.{Accepted as accepted, Refused as refused};
+ghost use Rattle.pl_model.specs.declared.work.Work.TheVariants.{Keep as to_keep, Post as to_post};
+ghost use Rattle.pl_model.specs.Due.{has_open, over_limit};
 ghost use Rattle.pl_model.specs.Plan.{plan_by};
 ghost use Rattle.pl_model.specs.Requests.{fate_of};
 ghost use Rattle.pl_model_rows.specs.OneComponent.{events, run, site_entry, site_told, site_urn, with_outputs};

@@ -3,7 +3,7 @@
 ghost use Rattle.std.specs.Prelude.{◌≡◌, [], ◌∷◌, codes, None, Some};
 ghost use Rattle.pl_events.specs.declared.operation.Ask.{Ask};
 ghost use Rattle.pl_decide.specs.declared.decision.Decision.{Decision};
-ghost use Rattle.pl_model.specs.Due.{to_post, to_send};
+ghost use Rattle.pl_model.specs.declared.work.Work.TheVariants.{Post as to_post, Send as to_send};
 ghost use Rattle.pl_model.specs.Plan.{plan_by};
 ghost use Rattle.pl_model_rows.specs.CreateFirst.{new_a, old_a};
 ghost use Rattle.pl_model_rows.specs.Pieces.{a_urn, checks_inputs, compares, creates, creating, deletes, deleting, fixed_at, new_thing, provider_entry, provider_urn, stack_entry, stack_urn, state_with};

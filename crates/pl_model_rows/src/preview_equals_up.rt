@@ -3,7 +3,8 @@
 ghost use Rattle.std.specs.Prelude.{◌≡◌, [], ◌∷◌, codes, false, None, Some, true};
 ghost use Rattle.pl_events.specs.declared.event.Answer.{Answer};
 ghost use Rattle.pl_decide.specs.declared.problem.Problem.{Problem};
-ghost use Rattle.pl_model.specs.Due.{is_asked, is_due, is_post_due, to_keep, to_post, to_send};
+ghost use Rattle.pl_model.specs.declared.work.Work.TheVariants.{Keep as to_keep, Post as to_post, Send as to_send};
+ghost use Rattle.pl_model.specs.Due.{is_asked, is_due, is_post_due};
 ghost use Rattle.pl_model.specs.Plan.{plan_by};
 ghost use Rattle.pl_model.specs.declared.mode.Mode.TheVariants.{Preview, Up};
 ghost use Rattle.pl_model_rows.specs.CreateFirst.{b_entry};

@@ -4,7 +4,7 @@ ghost use Rattle.std.specs.Prelude.{◌≡◌, [], ◌∷◌, codes, false, Some
 ghost use Rattle.pl_events.specs.declared.event.Answer.{Answer};
 ghost use Rattle.pl_decide.specs.declared.decision.Decision.{Decision};
 ghost use Rattle.pl_decide.specs.declared.problem.Problem.{Problem};
-ghost use Rattle.pl_model.specs.Due.{to_post, to_send};
+ghost use Rattle.pl_model.specs.declared.work.Work.TheVariants.{Post as to_post, Send as to_send};
 ghost use Rattle.pl_model_rows.specs.Pieces.{b_urn, checks_inputs, checks_provider, compares, configures, deletes};
 ghost use Rattle.pl_model_rows.specs.Prefixes.{answer_at, decision_at, due_at, known_end, marks_of, operations_begun, state_at};
 ghost use Rattle.pl_model_rows.specs.ProtectedDependent.{events, run, unprotected};

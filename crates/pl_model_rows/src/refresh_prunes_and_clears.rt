@@ -3,7 +3,8 @@
 ghost use Rattle.std.specs.Prelude.{◌≡◌, ◌++◌, [], ◌∷◌, codes, false, None, Some, true};
 ghost use Rattle.pl_events.specs.declared.operation.Ask.{Ask};
 ghost use Rattle.pl_decide.specs.declared.problem.Problem.{Problem};
-ghost use Rattle.pl_model.specs.Due.{has_open, over_limit, to_clear, to_send};
+ghost use Rattle.pl_model.specs.declared.work.Work.TheVariants.{Clear as to_clear, Send as to_send};
+ghost use Rattle.pl_model.specs.Due.{has_open, over_limit};
 ghost use Rattle.pl_model_rows.specs.Pieces.{a_urn, b_urn, configures_row, first_id, k_one, provider_entry, provider_urn, reads, reads_pending, stack_entry, state_with, thing, thing_urn};
 ghost use Rattle.pl_model_rows.specs.Prefixes.{ask_at, choices_of, due_at, known_at, known_end, marks_of, state_at};
 ghost use Rattle.pl_model_rows.specs.ReadAnew.{a_entry, b_entry, b_left, c_deleting, clearing, d_creating, d_urn, events, hindered, imported, importing, not_imported, run, run_with};

@@ -4,7 +4,8 @@ ghost use Rattle.std.specs.Prelude.{◌≡◌, [], ◌∷◌, codes, false, None
 ghost use Rattle.pl_events.specs.declared.event.Answer.{Answer};
 ghost use Rattle.pl_events.specs.declared.operation.Ask.{Ask};
 ghost use Rattle.pl_decide.specs.declared.decision.Decision.{Decision};
-ghost use Rattle.pl_model.specs.Due.{has_open, over_limit, to_keep, to_post, to_send};
+ghost use Rattle.pl_model.specs.declared.work.Work.TheVariants.{Keep as to_keep, Post as to_post, Send as to_send};
+ghost use Rattle.pl_model.specs.Due.{has_open, over_limit};
 ghost use Rattle.pl_model.specs.Legal.{needs_fresh};
 ghost use Rattle.pl_model.specs.Plan.{plan_by};
 ghost use Rattle.pl_model_rows.specs.FirstCreate.{events as first_events};

@@ -2,4 +2,4 @@ use Rattle.pl_model_laws.proofs.Pruning as pruning
 use Rattle.pl_model_laws.proofs.anew.anew_sound.Goals as goal
 
 pub returns : goal.returns
-returns c = λ run spelling history anew apart legal. pruning.anew-sound run spelling history anew apart legal
+returns c = λ run history anew apart orderly. pruning.anew-sound run history anew apart orderly

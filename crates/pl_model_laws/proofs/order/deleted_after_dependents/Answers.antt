@@ -2,4 +2,4 @@ use Rattle.pl_model_laws.proofs.Dependents as proof
 use Rattle.pl_model_laws.proofs.order.deleted_after_dependents.Goals as goal
 
 pub returns : goal.returns
-returns c = λ run spelling history later earlier legal refers left. proof.deleted_last run spelling later earlier refers history legal left
+returns c = λ run history later earlier orderly refers left. proof.deleted_last run later earlier refers history orderly left

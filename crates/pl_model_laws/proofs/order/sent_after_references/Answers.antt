@@ -7,7 +7,7 @@ use Rattle.pl_model_laws.proofs.Staying as stays
 use Rattle.pl_model_laws.proofs.order.sent_after_references.Goals as goal
 
 pub returns : goal.returns
-returns c = λ run spelling history about number goal legal begun on stands.
-    let sent = proof.begun-held run spelling history about number legal begun on in
+returns c = λ run history about number goal orderly begun on stands.
+    let sent = proof.begun-held run history about number orderly begun on in
     subst (λ (it : Goal). references_recorded (known_of run history) it ≡ true)
     (stays.some_same sent.0 goal (sym sent.2.stands ∙ stands)) sent.2.references

@@ -1,0 +1,15 @@
+mod Plain
+mod PlainTickets
+mod Alike
+mod Settling
+mod Unchanged
+mod Steps
+mod Reading
+mod Lanes
+mod Whole
+mod Ready
+mod Works
+mod Next
+mod Enough
+mod Same
+mod Happen
