@@ -1,0 +1,11 @@
+mod Numbers
+mod Fulfilling
+mod Tally
+mod Weighing
+mod Moving
+mod Limiting
+mod Shallow
+mod Forms
+mod Forming
+mod Refreshing
+mod Within

@@ -1,0 +1,5 @@
+use Rattle.pl_model_ends.proofs.Within as proof
+use Rattle.pl_model_ends.proofs.ends.start_within.Goals as goal
+
+pub returns : goal.returns
+returns c = proof.start-within

@@ -1,0 +1,14 @@
+pub mod Tests
+pub mod Orderly
+pub mod Spelled
+pub mod Saved
+pub mod Given
+pub mod Taken
+pub mod Finished
+pub mod Rows
+pub mod FirstCreate
+pub mod Destroyed
+pub mod ChainParts
+pub mod ChainQuiet
+pub mod ChainRows
+pub mod TakesChain
