@@ -1,0 +1,4 @@
+pub mod Above
+pub mod Ancestors
+pub mod Behind
+pub mod Covers
