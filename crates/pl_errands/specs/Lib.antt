@@ -1,0 +1,5 @@
+pub mod Tickets
+pub mod Rows
+pub mod Lanes
+pub mod Agree
+pub mod Kept

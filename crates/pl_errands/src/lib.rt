@@ -1,0 +1,13 @@
+//! The operations of a run by their tickets: which were begun, answered and lost, with what reply, and on which lanes.
+#![tactic(auto)]
+
+mod errands;
+mod lane;
+mod row;
+mod same;
+#[cfg(test)]
+mod tests;
+
+pub use errands::Errands;
+pub use pl_events;
+pub use pl_model;

@@ -1,0 +1,86 @@
+ghost use Rattle.std.specs.Prelude.{◌≡◌, Some, find, slice_get, slice_set, true};
+ghost use Rattle.std.specs.List.{list_any};
+ghost use Rattle.std.specs.Option.{option_copied};
+ghost use Rattle.std.specs.Vec.{vec_capacity};
+ghost use Rattle.pl_errands.specs.Rows as spec;
+ghost use Rattle.pl_model.specs.Tickets.{same_op as is_same_op};
+ghost use Rattle.pl_state.specs.Chain.{some_passes};
+
+use crate::same::same_op;
+use pl_events::{Op, Reply};
+use pl_model::{Closed, Errand};
+
+/// What became of an operation that was begun.
+#[derive(Clone, Copy, Debug)]
+pub enum Standing {
+    Open,
+    Answered,
+    /// Answered by the word that its lane is configured.
+    Configured,
+    Lost,
+}
+
+/// An operation that was begun, at the place of its ticket.
+#[derive(Clone, Copy, Debug)]
+pub struct Row {
+    pub errand: Errand,
+    pub standing: Standing,
+}
+
+/// An operation that was answered, with its ticket.
+#[derive(Debug, Drop)]
+pub struct Replied {
+    pub ticket: u64,
+    pub closed: Closed,
+}
+
+impl Row {
+    pub fn is_open(&self) -> bool
+        ensures { result ≡ spec.is_open_row self.now }
+    {
+        matches!(self.standing, Standing::Open)
+    }
+}
+
+/// What an operation comes to by a reply.
+pub fn standing_of(reply: &Reply) -> Standing
+    ensures { result ≡ spec.standing_of reply.now }
+{
+    match reply {
+        Reply::Configured => Standing::Configured,
+        _ => Standing::Answered,
+    }
+}
+
+/// Sets what became of an open operation, and gives its errand.
+pub fn close(rows: &mut Vec<Row>, ticket: u64, standing: Standing) -> Errand
+    requires { some_passes spec.is_open_row (slice_get rows.old.items ticket) ≡ true }
+    ensures was { slice_get rows.old.items ticket ≡ Some (record { errand = result; standing = Standing.Open }) }
+    ensures set { rows.new.items ≡ slice_set rows.old.items ticket (record { errand = result; standing = standing }) }
+    ensures room { vec_capacity rows.new ≡ vec_capacity rows.old }
+{
+    let row = &mut rows[ticket as usize];
+    row.standing = standing;
+    row.errand
+}
+
+/// The row of a ticket.
+pub fn row_at(rows: &[Row], ticket: u64) -> Option<Row>
+    ensures { result ≡ slice_get rows.now ticket }
+{
+    rows.get(ticket as usize).copied()
+}
+
+/// Whether a row has this operation.
+pub fn has_op(rows: &[Row], op: Op) -> bool
+    ensures { result ≡ list_any (λ row. is_same_op row.errand.op op) rows.now }
+{
+    rows.iter().any(|row| same_op(row.errand.op, op))
+}
+
+/// The first reply to an operation.
+pub fn first_reply(replies: &[Replied], op: Op) -> Option<&Replied>
+    ensures { option_copied result ≡ find (λ one. is_same_op one.closed.op op) replies.now }
+{
+    replies.iter().find(|one| same_op(one.closed.op, op))
+}
