@@ -2,6 +2,7 @@
 -- in their order.
 use Rattle.std.specs.Prelude.{ℕ, zero, suc, ◌+◌, ℤ, Bool, true, false, if◌then◌else◌, List, [], ◌∷◌, codes, bytes_eq, Option, Some, None, is_some, Result, Ok, Err}
 use Rattle.std.specs.Result.{result_map_both}
+use Rattle.pl_value.specs.Depth.{most_levels}
 use Rattle.pl_value.specs.Marks.{unknown_text, secret_key, secret_mark}
 use Rattle.pl_value.specs.declared.json.JsonFault.{JsonFault}
 use Rattle.pl_value.specs.declared.json.JsonFault.TheVariants.{NotWhole, SecretSealed, BadSecret, TooDeep}
@@ -17,7 +18,7 @@ use Rattle.pl_json.specs.declared.fault.FieldsFault.TheVariants.{WrongKind, Json
 
 -- how many lists, objects and secrets may stand in each other
 unfoldable pub deepest : ℕ
-deepest = 64
+deepest = most_levels
 
 -- the key under which the object of a secret holds the ciphertext of its value
 unfoldable pub ciphertext_key : List ℕ

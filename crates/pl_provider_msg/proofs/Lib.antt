@@ -1,0 +1,11 @@
+pub mod Steps
+pub mod HeldData
+pub mod ReadValues
+pub mod ReadAgain
+pub mod Items
+pub mod Texts
+pub mod JsonTexts
+pub mod Fitting
+pub mod Outlines
+pub mod ReadBack
+pub mod RepliesBack

@@ -1,0 +1,7 @@
+pub mod Field
+pub mod Laws
+pub mod Out
+pub mod Parts
+pub mod Request
+pub mod Response
+pub mod Words

@@ -1,0 +1,23 @@
+//! The messages between the program and a provider: what a provider is asked, and what it replies.
+#![tactic(auto)]
+
+mod asked;
+mod asking;
+mod failure;
+mod field;
+mod laws;
+mod lists;
+mod members;
+mod replied;
+mod replying;
+#[cfg(test)]
+mod tests;
+mod words;
+
+pub use asked::ask_of;
+pub use asking::request_bytes;
+pub use failure::{MsgIn, MsgOut};
+pub use laws::{messages_are_read, messages_are_read_again, replies_fit};
+pub use pl_events::{Ask, Call, Reply};
+pub use replied::reply_of;
+pub use replying::reply_bytes;
