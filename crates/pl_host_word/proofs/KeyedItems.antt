@@ -1,0 +1,21 @@
+-- What is read of the members of an object, one after another.
+use Rattle.std.proofs.Common.{◌≡◌, ℕ, List, [], ◌∷◌, ◌++◌, Option, Some, None, refl, sym, ap, append_assoc, string_bytes}
+use Rattle.serde_json.proofs.Views.{Entry}
+use Rattle.serde_json.specs.View.{view, members_view}
+use Rattle.pl_provider_msg.specs.Field.{before, texts_of}
+use Rattle.pl_provider_msg.proofs.Items.{after}
+use Rattle.pl_host_word.specs.Field.{Keyed, each_member}
+
+-- one more is read
+after-next : {X : Type 0} (made : List X) (one : X) (others : Option (List X)) → after made (before (Some one) others) ≡ after (made ++ one ∷ []) others
+after-next made one None = refl
+after-next made one (Some more) = ap Some (sym (append_assoc made (one ∷ []) more))
+
+-- the next list of texts is read
+pub each_member-next : (e : Entry) (left : List Entry) (texts : List (List ℕ)) (made : Keyed) → texts_of (view e.1) ≡ Some texts
+    → after made (each_member texts_of (members_view (e ∷ left))) ≡ after (made ++ (string_bytes e.0, texts) ∷ []) (each_member texts_of (members_view left))
+each_member-next e left texts made read = rw read (after-next made (string_bytes e.0, texts) (each_member texts_of (members_view left)))
+
+-- a member that is not read is the last one
+pub each_member-stop : (e : Entry) (left : List Entry) (made : Keyed) → texts_of (view e.1) ≡ None → after made (each_member texts_of (members_view (e ∷ left))) ≡ None
+each_member-stop e left made read = rw read refl

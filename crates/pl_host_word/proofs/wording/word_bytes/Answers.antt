@@ -1,0 +1,23 @@
+use Rattle.std.proofs.Common.{◌≡◌, List, ℕ, IfErr, IfOk, subst, length}
+use Rattle.pl_host_word.specs.Spelled.{word_text}
+use Rattle.pl_host_msg.specs.Answer.{IfTooLong}
+use Rattle.pl_host_word.proofs.Texts.{body_of, word_text-some, word_text_from}
+use Rattle.pl_host_word.proofs.wording.word_bytes.Goals as goal
+
+pub returns-clause-bytes : goal.returns-clause-bytes
+returns-clause-bytes c =
+    let is = word_text_from c.args.word.now _ _ c.in_ok-word_value.ensures c.in_ok-bytes.ensures.text in
+    let Holds : List ℕ → Type 0 = λ text. IfOk c.fitting.result (λ bytes. bytes ≡ text) in
+    subst Holds is c.fitting.ensures.bytes
+
+pub returns-clause-body : goal.returns-clause-body
+returns-clause-body c =
+    let is = word_text_from c.args.word.now _ _ c.in_ok-word_value.ensures c.in_ok-bytes.ensures.text in
+    let Holds : List ℕ → Type 0 = λ text. IfOk c.fitting.result (λ bytes. bytes ≡ text) in
+    body_of c.fitting.result (word_text c.args.word.now) (word_text-some c.args.word.now) (subst Holds is c.fitting.ensures.bytes) c.fitting.ensures.fits
+
+pub returns-clause-too_long : goal.returns-clause-too_long
+returns-clause-too_long c =
+    let is = word_text_from c.args.word.now _ _ c.in_ok-word_value.ensures c.in_ok-bytes.ensures.text in
+    let Holds : List ℕ → Type 0 = λ text. IfErr c.fitting.result (λ error. IfTooLong error (λ len. len ≡ length text)) in
+    subst Holds is c.fitting.ensures.too_long
