@@ -1,0 +1,4 @@
+pub mod JsonTexts
+pub mod KeptValues
+pub mod Levels
+pub mod OneByOne

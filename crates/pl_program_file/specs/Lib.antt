@@ -1,0 +1,6 @@
+pub mod Field
+pub mod Filled
+pub mod Names
+pub mod Read
+pub mod Reference
+pub mod Registered
