@@ -12,9 +12,10 @@ use Rattle.serde_json.specs.Find.{get_member}
 use Rattle.serde_json.specs.View.{items_of}
 use Rattle.serde_json.specs.Written.{compact_text}
 use Rattle.pl_checkpoint.specs.Formed.{is_one_of, are_other, IsUnread, IsFormedEntry}
+use Rattle.pl_checkpoint.specs.ReadEntry.{other_members}
 use Rattle.pl_checkpoint.specs.Laws.{HasValues}
 use Rattle.pl_checkpoint.specs.Spelled.{Field, with_fields, entry_fields, entry_data, pending_data, unread_fields}
-use Rattle.pl_checkpoint.proofs.Fields.{Key, over, found, get_member-with_fields, get_member-other, without, without-other, without-with_fields}
+use Rattle.pl_checkpoint.proofs.Fields.{Key, over, found, get_member-with_fields, get_member-other, other_members-other, other_members-with_fields}
 use Rattle.pl_checkpoint.proofs.Parts.{same_flag, same_text, same_texts, same_values, same_properties, same_provider, same_kind}
 
 -- ---- fields among others
@@ -26,12 +27,12 @@ get_member-own fields ms key other own =
     get_member-with_fields fields key ms ∙ ap (found fields key) (get_member-other (keys_of fields) key ms own other)
 
 -- the other members are those that stood there
-pub without-own : (fields : List Field) (ms : Members) → are_other (keys_of fields) ms ≡ true
-    → list_all (λ field. is_one_of (keys_of fields) field.0) fields ≡ true → without (keys_of fields) (with_fields fields ms) ≡ ms
-without-own fields ms other own =
-    without-with_fields (keys_of fields) fields ms own ∙ without-other (keys_of fields) ms other
+pub other_members-own : (fields : List Field) (ms : Members) → are_other (keys_of fields) ms ≡ true
+    → list_all (λ field. is_one_of (keys_of fields) field.0) fields ≡ true → other_members (keys_of fields) (with_fields fields ms) ≡ ms
+other_members-own fields ms other own =
+    other_members-with_fields (keys_of fields) fields ms own ∙ other_members-other (keys_of fields) ms other
 
-over_none : (value : Option Data) → over value None ≡ value
+pub over_none : (value : Option Data) → over value None ≡ value
 over_none None = refl
 over_none (Some value) = refl
 
@@ -44,7 +45,7 @@ same_rest keys one two unread unread' same = unread.spelled ∙ ap (λ ms. compa
 
 -- ---- one entry
 
-own_keys : (entry : Entry) → list_all (λ field. is_one_of (keys_of (entry_fields entry)) field.0) (entry_fields entry) ≡ true
+pub own_keys : (entry : Entry) → list_all (λ field. is_one_of (keys_of (entry_fields entry)) field.0) (entry_fields entry) ≡ true
 unfolding entry_fields
 own_keys entry = refl
 
@@ -61,9 +62,9 @@ same_written one two same = cc
 
 same_unread : (one two : Entry) → IsFormedEntry one → IsFormedEntry two → written one ≡ written two → unread_fields one.rest ≡ unread_fields two.rest
 same_unread one two formed formed' same =
-    sym (without-own (entry_fields one) (unread_fields one.rest) formed.rest.other (own_keys one))
-    ∙ ap₂ without (same_keys one two) same
-    ∙ without-own (entry_fields two) (unread_fields two.rest) formed'.rest.other (own_keys two)
+    sym (other_members-own (entry_fields one) (unread_fields one.rest) formed.rest.other (own_keys one))
+    ∙ ap₂ other_members (same_keys one two) same
+    ∙ other_members-own (entry_fields two) (unread_fields two.rest) formed'.rest.other (own_keys two)
 
 -- the same is found under each key
 same_at : (one two : Entry) → IsFormedEntry one → IsFormedEntry two → written one ≡ written two

@@ -1,5 +1,5 @@
 -- Fields that are put into their places among the members of an object.
-use Rattle.std.proofs.Common.{◌≡◌, ℕ, ◌<◌, ◌+◌, length, map, take, get_or, Bool, true, false, not, cond, bytes_eq, List, [], ◌∷◌, ◌++◌, Option, Some, None, Ordering, Less, Equal, Greater, is_eq, refl, sym, ap, ◌∙◌}
+use Rattle.std.proofs.Common.{◌≡◌, ℕ, ◌<◌, ◌+◌, length, map, take, get_or, Bool, true, false, not, cond, if◌then◌else◌, bytes_eq, List, [], ◌∷◌, ◌++◌, Option, Some, None, Ordering, Less, Equal, Greater, is_eq, refl, sym, ap, ◌∙◌}
 use Rattle.std.proofs.lemmas.Bool.{and_parts}
 use Rattle.std.proofs.lemmas.List.{take_more, map-append}
 use Rattle.std.proofs.lemmas.Map.Text.{is_eq-slice_cmp}
@@ -12,6 +12,7 @@ use Rattle.serde_json.specs.Find.{get_member}
 use Rattle.serde_json.proofs.Views.{get_member-put, get_member-put_other}
 use Rattle.pl_checkpoint.specs.Spelled.{Field, put_if_some, with_fields, texts_data, property_field}
 use Rattle.pl_checkpoint.specs.Formed.{is_one_of, are_other}
+use Rattle.pl_checkpoint.specs.ReadEntry.{other_members}
 
 abbrev pub Key : Type 0
 Key = List ℕ
@@ -82,51 +83,42 @@ get_member-other keys key (member first value more) own other =
 
 -- ---- the members under other keys
 
-abbrev unless : Bool → Key → Data → Members → Members
-unless true key value ms = ms
-unless false key value ms = member key value ms
-
--- the members under none of the keys
-abbrev pub without : List Key → Members → Members
-without keys no_members = no_members
-without keys (member key value more) = unless (is_one_of keys key) key value (without keys more)
-
-pub without-other : (keys : List Key) (ms : Members) → are_other keys ms ≡ true → without keys ms ≡ ms
-without-other keys no_members other = refl
-without-other keys (member key value more) other =
+pub other_members-other : (keys : List Key) (ms : Members) → are_other keys ms ≡ true → other_members keys ms ≡ ms
+other_members-other keys no_members other = refl
+other_members-other keys (member key value more) other =
     let parts = and_parts (not (is_one_of keys key)) (are_other keys more) other in
-    rw (not_true _ parts.0, without-other keys more parts.1) refl
+    rw (not_true _ parts.0, other_members-other keys more parts.1) refl
 
-without-put_at : (o : Ordering) (keys : List Key) (key first : Key) (value here : Data) (more : Members) → slice_cmp nat_cmp key first ≡ o
-    → is_one_of keys key ≡ true → without keys (put key value more) ≡ without keys more
-    → without keys (match_ordering o (member key value (member first here more)) (member first value more) (member first here (put key value more)))
-    ≡ without keys (member first here more)
-without-put_at Less keys key first value here more is own later = rw own refl
-without-put_at Equal keys key first value here more is own later =
+other_members-put_at : (o : Ordering) (keys : List Key) (key first : Key) (value here : Data) (more : Members) → slice_cmp nat_cmp key first ≡ o
+    → is_one_of keys key ≡ true → other_members keys (put key value more) ≡ other_members keys more
+    → other_members keys (match_ordering o (member key value (member first here more)) (member first value more) (member first here (put key value more)))
+    ≡ other_members keys (member first here more)
+other_members-put_at Less keys key first value here more is own later = rw own refl
+other_members-put_at Equal keys key first value here more is own later =
     let same : key ≡ first = (bytes_eq-Decides key first).0 (sym (is_eq-slice_cmp key first) ∙ ap is_eq is) in
     let first_own : is_one_of keys first ≡ true = ap (is_one_of keys) (sym same) ∙ own in
     rw first_own refl
-without-put_at Greater keys key first value here more is own later = ap (unless (is_one_of keys first) first here) later
+other_members-put_at Greater keys key first value here more is own later = ap (λ ms. if is_one_of keys first then ms else member first here ms) later
 
-without-put : (keys : List Key) (key : Key) (value : Data) (ms : Members) → is_one_of keys key ≡ true
-    → without keys (put key value ms) ≡ without keys ms
-without-put keys key value no_members own = rw own refl
-without-put keys key value (member first here more) own =
-    without-put_at _ keys key first value here more refl own (without-put keys key value more own)
+other_members-put : (keys : List Key) (key : Key) (value : Data) (ms : Members) → is_one_of keys key ≡ true
+    → other_members keys (put key value ms) ≡ other_members keys ms
+other_members-put keys key value no_members own = rw own refl
+other_members-put keys key value (member first here more) own =
+    other_members-put_at _ keys key first value here more refl own (other_members-put keys key value more own)
 
-without-put_if_some : (keys : List Key) (key : Key) (value : Option Data) (ms : Members) → is_one_of keys key ≡ true
-    → without keys (put_if_some key value ms) ≡ without keys ms
-without-put_if_some keys key None ms own = refl
-without-put_if_some keys key (Some value) ms own = without-put keys key value ms own
+other_members-put_if_some : (keys : List Key) (key : Key) (value : Option Data) (ms : Members) → is_one_of keys key ≡ true
+    → other_members keys (put_if_some key value ms) ≡ other_members keys ms
+other_members-put_if_some keys key None ms own = refl
+other_members-put_if_some keys key (Some value) ms own = other_members-put keys key value ms own
 
 -- fields that were put in are taken out again
-pub without-with_fields : (keys : List Key) (fields : List Field) (ms : Members) → list_all (λ field. is_one_of keys field.0) fields ≡ true
-    → without keys (with_fields fields ms) ≡ without keys ms
-without-with_fields keys [] ms own = refl
-without-with_fields keys (field ∷ more) ms own =
+pub other_members-with_fields : (keys : List Key) (fields : List Field) (ms : Members) → list_all (λ field. is_one_of keys field.0) fields ≡ true
+    → other_members keys (with_fields fields ms) ≡ other_members keys ms
+other_members-with_fields keys [] ms own = refl
+other_members-with_fields keys (field ∷ more) ms own =
     let parts = and_parts (is_one_of keys field.0) (list_all (λ one. is_one_of keys one.0) more) own in
-    without-with_fields keys more (put_if_some field.0 field.1 ms) parts.1
-    ∙ without-put_if_some keys field.0 field.1 ms parts.0
+    other_members-with_fields keys more (put_if_some field.0 field.1 ms) parts.1
+    ∙ other_members-put_if_some keys field.0 field.1 ms parts.0
 
 -- ---- the URNs of properties
 

@@ -60,10 +60,10 @@ same_values one other a b c d same = same_list one other _ _ same (λ equal. tex
 
 -- ---- the URNs of properties
 
-abbrev Pairs : Type 0
+abbrev pub Pairs : Type 0
 Pairs = List (List ℕ × List (List ℕ))
 
-abbrev in_order : Pairs → Members
+abbrev pub in_order : Pairs → Members
 in_order [] = no_members
 in_order (pair ∷ more) = member pair.0 (texts_data pair.1) (in_order more)
 
@@ -81,7 +81,7 @@ behind (pair ∷ more) key value ms above =
     let greater : slice_cmp nat_cmp pair.0 key ≡ Greater = reversed key pair.0 Less (less_from _ parts.0) in
     rw (with_fields, greater) (behind more key value (put pair.0 (texts_data pair.1) ms) parts.1)
 
-rising_in_order : (pairs : Pairs) → are_rising (keys_of pairs) ≡ true → with_fields (map property_field pairs) no_members ≡ in_order pairs
+pub rising_in_order : (pairs : Pairs) → are_rising (keys_of pairs) ≡ true → with_fields (map property_field pairs) no_members ≡ in_order pairs
 rising_in_order [] rising = refl
 rising_in_order (pair ∷ more) rising =
     let parts = and_parts (list_all (is_below pair.0) (keys_of more)) (are_rising (keys_of more)) rising in

@@ -11,13 +11,14 @@ use Rattle.serde_json.specs.Data.{Data, object, Members}
 use Rattle.serde_json.specs.Find.{as_object, get_member}
 use Rattle.serde_json.specs.View.{items_of}
 use Rattle.pl_checkpoint.specs.Formed.{is_one_of, IsFormed}
+use Rattle.pl_checkpoint.specs.ReadEntry.{other_members}
 use Rattle.pl_checkpoint.specs.Laws.{AreValued, TextTellsState}
 use Rattle.pl_checkpoint.specs.Spelled.{with_fields, unread_fields, with_manifest, entry_data, entries_data, pending_data, pendings_data, deployment_fields, deployment_data, stack_data, checkpoint_data, checkpoint_text}
-use Rattle.pl_checkpoint.proofs.EntryTells.{get_member-own, without-own, same_rest, same_entries, same_pendings}
-use Rattle.pl_checkpoint.proofs.Fields.{without, found}
+use Rattle.pl_checkpoint.proofs.EntryTells.{get_member-own, other_members-own, same_rest, same_entries, same_pendings}
+use Rattle.pl_checkpoint.proofs.Fields.{found}
 use Rattle.pl_checkpoint.proofs.Wholes.{checkpoint_wholes}
 
-own_keys : (state : Snapshot) → list_all (λ field. is_one_of (keys_of (deployment_fields state)) field.0) (deployment_fields state) ≡ true
+pub own_keys : (state : Snapshot) → list_all (λ field. is_one_of (keys_of (deployment_fields state)) field.0) (deployment_fields state) ≡ true
 unfolding deployment_fields
 own_keys state = refl
 
@@ -31,7 +32,7 @@ there : (manifest : Option Data) (ms without_one : Members) → is_some (option_
 there None ms without_one is = absurd (cc)
 there (Some manifest) ms without_one is = refl
 
-with_manifest-there : (state : Snapshot) → IsFormed state → with_manifest (unread_fields state.rest) ≡ unread_fields state.rest
+pub with_manifest-there : (state : Snapshot) → IsFormed state → with_manifest (unread_fields state.rest) ≡ unread_fields state.rest
 with_manifest-there state formed = there (get_member (codes "manifest") (unread_fields state.rest)) (unread_fields state.rest) _ formed.manifest
 
 abbrev written : Snapshot → Members
@@ -43,9 +44,9 @@ deployment_data-written state formed = ap (λ unread. object (with_fields (deplo
 
 same_unread : (one two : Snapshot) → IsFormed one → IsFormed two → written one ≡ written two → unread_fields one.rest ≡ unread_fields two.rest
 same_unread one two formed formed' same =
-    sym (without-own (deployment_fields one) (unread_fields one.rest) formed.rest.other (own_keys one))
-    ∙ ap₂ without (same_keys one two) same
-    ∙ without-own (deployment_fields two) (unread_fields two.rest) formed'.rest.other (own_keys two)
+    sym (other_members-own (deployment_fields one) (unread_fields one.rest) formed.rest.other (own_keys one))
+    ∙ ap₂ other_members (same_keys one two) same
+    ∙ other_members-own (deployment_fields two) (unread_fields two.rest) formed'.rest.other (own_keys two)
 
 same_at : (one two : Snapshot) → IsFormed one → IsFormed two → written one ≡ written two
     → (key : List ℕ) → is_one_of (keys_of (deployment_fields one)) key ≡ true → found (deployment_fields one) key None ≡ found (deployment_fields two) key None

@@ -29,7 +29,7 @@ IsWhole-from (negative (negsuc n)) h = (negsuc n, h, refl)
 IsWhole-from (float x) h = absurd (cc)
 
 mutual
-  HasWholes-from : (d : Data) → has_wholes d ≡ true → HasWholes d
+  pub HasWholes-from : (d : Data) → has_wholes d ≡ true → HasWholes d
   HasWholes-from null h = tt
   HasWholes-from (boolean b) h = tt
   HasWholes-from (number n) h = IsWhole-from n h
@@ -43,7 +43,7 @@ mutual
       let parts = and_parts (has_wholes d) (items_have_wholes ds) h in
       (HasWholes-from d parts.0, ItemsHaveWholes-from ds parts.1)
 
-  MembersHaveWholes-from : (ms : Members) → members_have_wholes ms ≡ true → MembersHaveWholes ms
+  pub MembersHaveWholes-from : (ms : Members) → members_have_wholes ms ≡ true → MembersHaveWholes ms
   MembersHaveWholes-from no_members h = tt
   MembersHaveWholes-from (member k d ms) h =
       let parts = and_parts (has_wholes d) (members_have_wholes ms) h in

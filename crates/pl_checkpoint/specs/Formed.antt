@@ -1,6 +1,7 @@
 -- Which states are formed: those that the checkpoint's format can tell.
 use Rattle.std.specs.Prelude.{◌≡◌, ◌≢◌, ◌≤◌, ◌^◌, ℕ, pos, negsuc, Bool, true, false, not, ◌&&◌, nat_lt, All, IsTrue, IfSome, List, [], bytes_eq, Some, codes, is_some, option_and_then}
 use Rattle.std.specs.List.{list_any}
+use Rattle.pl_value.specs.Depth.{most_levels}
 use Rattle.pl_value.specs.Inside.{greatest_field_depth}
 use Rattle.pl_value.specs.Keys.{are_rising, keys_of}
 use Rattle.pl_reference.specs.Reference.{reference_in, reference_text}
@@ -11,10 +12,6 @@ use Rattle.serde_json.specs.Data.{Num, unsigned, negative, float, Data, null, bo
 use Rattle.serde_json.specs.Find.{get_member, as_object}
 use Rattle.serde_json.specs.Written.{compact_text}
 use Rattle.pl_checkpoint.specs.Spelled.{entry_fields, deployment_fields, unread_fields}
-
--- the number of levels that a value may have
-abbrev pub most_levels : ℕ
-most_levels = 64
 
 -- ---- data that is kept unread
 

@@ -1,6 +1,6 @@
 -- How a state is spelled: the checkpoint's data of version 3 and its text. An object's members stand in rising order of
 -- their keys.
-use Rattle.std.specs.Prelude.{ℕ, Bool, true, false, if◌then◌else◌, List, [], ◌∷◌, ◌++◌, map, Option, Some, None, option_and_then, option_map, is_some, codes}
+use Rattle.std.specs.Prelude.{ℕ, Bool, true, false, if◌then◌else◌, List, [], ◌∷◌, map, Option, Some, None, option_and_then, option_map, is_some, codes}
 use Rattle.pl_json.specs.Spelled.{spelled_fields}
 use Rattle.pl_state.specs.declared.entry.Entry.{Entry}
 use Rattle.pl_state.specs.declared.pending.Pending.{Pending}

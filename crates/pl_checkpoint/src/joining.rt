@@ -1,4 +1,4 @@
-ghost use Rattle.std.specs.Prelude.{◌≡◌, ◌++◌, false, IfOk, OnOk, string_cmp};
+ghost use Rattle.std.specs.Prelude.{◌≡◌, ◌++◌, false, IfOk, IsUtf8, OnOk, string_cmp};
 ghost use Rattle.std.specs.BTreeMap.{IsOrdered};
 ghost use Rattle.pl_state.specs.declared.snapshot.Snapshot.{Snapshot};
 ghost use Rattle.serde_json.specs.Data.{string};
@@ -22,8 +22,9 @@ pub fn join_text(
     entries: &Texts,
     pendings: &Texts,
 ) -> Result<Bytes, OutOfMemory>
-    ensures { IfOk result (λ bytes. (state : Snapshot)
+    ensures text { IfOk result (λ bytes. (state : Snapshot)
         → ArePieces stack.now rest.now entries.now pendings.now state → bytes ≡ checkpoint_text state) }
+    ensures utf8 { IfOk result (λ bytes. IsUtf8 bytes) }
 {
     let members = deployment_members(alloc, rest)?;
     let mut out = Bytes::from_slice(alloc, b"{\"checkpoint\":{\"latest\":{")?;
@@ -56,7 +57,8 @@ fn add_manifest(alloc: Global, members: &mut Members) -> Result<(), OutOfMemory>
 
 /// Adds a comma, where something stands before.
 fn push_comma_if(out: &mut Bytes, is_later: bool) -> Result<(), OutOfMemory>
-    ensures { OnOk result (out.new ≡ out.old ++ comma_if is_later) }
+    ensures added { OnOk result (out.new ≡ out.old ++ comma_if is_later) }
+    ensures utf8 { OnOk result (IsUtf8 out.old → IsUtf8 out.new) }
 {
     if is_later {
         out.extend(b",")?;
@@ -66,7 +68,8 @@ fn push_comma_if(out: &mut Bytes, is_later: bool) -> Result<(), OutOfMemory>
 
 /// Adds the texts, with commas between them.
 fn push_listed(out: &mut Bytes, texts: &[Text]) -> Result<(), OutOfMemory>
-    ensures { OnOk result (out.new ≡ out.old ++ listed false texts.now) }
+    ensures added { OnOk result (out.new ≡ out.old ++ listed false texts.now) }
+    ensures utf8 { OnOk result (IsUtf8 out.old → IsUtf8 out.new) }
 {
     let mut is_later = false;
     for text in texts {
@@ -79,7 +82,8 @@ fn push_listed(out: &mut Bytes, texts: &[Text]) -> Result<(), OutOfMemory>
 
 /// Adds the array of the texts.
 fn push_list(out: &mut Bytes, texts: &Texts) -> Result<(), OutOfMemory>
-    ensures { OnOk result (out.new ≡ out.old ++ list_text texts.now) }
+    ensures added { OnOk result (out.new ≡ out.old ++ list_text texts.now) }
+    ensures utf8 { OnOk result (IsUtf8 out.old → IsUtf8 out.new) }
 {
     out.extend(b"[")?;
     push_listed(out, texts.as_slice())?;
@@ -88,7 +92,8 @@ fn push_list(out: &mut Bytes, texts: &Texts) -> Result<(), OutOfMemory>
 
 /// Adds the text of the value.
 fn push_value(alloc: Global, out: &mut Bytes, value: &Json) -> Result<(), OutOfMemory>
-    ensures { OnOk result (has_float (view value.now) ≡ false → out.new ≡ out.old ++ compact_text (view value.now)) }
+    ensures added { OnOk result (has_float (view value.now) ≡ false → out.new ≡ out.old ++ compact_text (view value.now)) }
+    ensures utf8 { OnOk result (IsUtf8 out.old → IsUtf8 out.new) }
 {
     let text = value.to_vec(alloc)?;
     out.extend(text.as_slice())
@@ -96,7 +101,8 @@ fn push_value(alloc: Global, out: &mut Bytes, value: &Json) -> Result<(), OutOfM
 
 /// Adds the text as JSON.
 fn push_quoted(alloc: Global, out: &mut Bytes, text: &str) -> Result<(), OutOfMemory>
-    ensures { OnOk result (out.new ≡ out.old ++ compact_text (string text.now)) }
+    ensures added { OnOk result (out.new ≡ out.old ++ compact_text (string text.now)) }
+    ensures utf8 { OnOk result (IsUtf8 out.old → IsUtf8 out.new) }
 {
     let value = Json::try_from_str(alloc, text)?;
     push_value(alloc, out, &value)
@@ -111,8 +117,9 @@ fn push_field(
     entries: &Texts,
     pendings: &Texts,
 ) -> Result<(), OutOfMemory>
-    ensures { OnOk result (has_float (view value.now) ≡ false
+    ensures added { OnOk result (has_float (view value.now) ≡ false
         → out.new ≡ out.old ++ field_text entries.now pendings.now key.now (view value.now)) }
+    ensures utf8 { OnOk result (IsUtf8 out.old → IsUtf8 out.new) }
 {
     match key {
         "pending_operations" => push_list(out, pendings),
@@ -132,6 +139,7 @@ fn push_members(
     ensures rising { IsOrdered string_cmp members.now }
     ensures added { OnOk result (members_have_float (members_view members.now.entries) ≡ false
         → out.new ≡ out.old ++ fields_text entries.now pendings.now false (members_view members.now.entries)) }
+    ensures utf8 { OnOk result (IsUtf8 out.old → IsUtf8 out.new) }
 {
     let mut is_later = false;
     for (key, value) in members.iter() {

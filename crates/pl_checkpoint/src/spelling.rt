@@ -1,6 +1,7 @@
-ghost use Rattle.std.specs.Prelude.{◌≡◌, IfOk, map};
+ghost use Rattle.std.specs.Prelude.{◌≡◌, IfOk, IsUtf8, map};
 ghost use Rattle.serde_json.specs.View.{view};
 ghost use Rattle.pl_checkpoint.specs.Pieces.{entry_text, pending_text};
+ghost use Rattle.pl_checkpoint.specs.ReadLaws.{IsReadable, ReadOnlyAs};
 ghost use Rattle.pl_checkpoint.specs.Spelled.{checkpoint_text, entry_data, kind_word, pending_data};
 
 use crate::joining::join_text;
@@ -14,9 +15,11 @@ use pl_value::{Bytes, OutOfMemory, Text, Texts};
 use serde_json::{Map, Value as Json, put};
 use std::alloc::Global;
 
-/// The bytes of the checkpoint.
+/// The bytes of the checkpoint. Those of a state that a checkpoint may hold read as the state, and as no other.
 pub fn write(alloc: Global, state: &Snapshot) -> Result<Bytes, OutOfMemory>
-    ensures { IfOk result (λ bytes. bytes ≡ checkpoint_text state.now) }
+    ensures text { IfOk result (λ bytes. bytes ≡ checkpoint_text state.now) }
+    ensures utf8 { IfOk result (λ bytes. IsUtf8 bytes) }
+    ensures read_back { IfOk result (λ bytes. IsReadable state.now → ReadOnlyAs bytes state.now) }
 {
     let entries = spell_entries(alloc, state.entries.as_slice())?;
     let pendings = spell_pendings(alloc, state.pending.as_slice())?;
