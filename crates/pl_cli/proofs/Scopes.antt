@@ -13,7 +13,8 @@ use Rattle.pl_cli.specs.Table.{command_named, fits, option_named, option_text, r
 use Rattle.pl_cli.specs.Word.{begins_with_dash, name_part, own_value}
 use Rattle.pl_cli.specs.Place.{dashed_role, form_after, form_wanted, given_value, has_value, may_stand, may_stand_as, names_option, option_row, plain_role, role_of, value_at, value_follows, word_at}
 use Rattle.pl_cli.specs.Reading.{fault_place, misplaced_word}
-use Rattle.pl_cli.specs.declared.table.CommandName.TheVariants.{Up}
+use Rattle.pl_cli.specs.declared.table.CommandName.{CommandName}
+use Rattle.pl_cli.specs.declared.table.CommandName.TheVariants.{Up, State}
 use Rattle.pl_cli.specs.declared.table.OptionName.{OptionName}
 use Rattle.pl_cli.specs.declared.table.OptionName.TheVariants.{Stack, Project, File}
 use Rattle.pl_cli.specs.declared.table.Form.{Form}
@@ -49,11 +50,11 @@ fails-find-range test from (suc len) (suc k) h below =
     rw e (fails-find-range test (from + 1) len k (not_first (test from) from _ h).1 (omega arith))
 
 -- where no fault has a place, each word may stand
-stands : (words host : List (List ℕ)) (place : ℕ) → fault_place Up words host ≡ None → place < length words → may_stand Up words place ≡ true
+pub stands : (command : CommandName) (words host : List (List ℕ)) (place : ℕ) → fault_place command words host ≡ None → place < length words → may_stand command words place ≡ true
 unfolding misplaced_word
-stands words host place h below =
-    let none : misplaced_word Up words ≡ None = first_none (misplaced_word Up words) _ h in
-    not-false _ (rw zero-add at (fails-find-range (λ place. not (may_stand Up words place)) 0 (length words) place none below))
+stands command words host place h below =
+    let none : misplaced_word command words ≡ None = first_none (misplaced_word command words) _ h in
+    not-false _ (rw zero-add at (fails-find-range (λ place. not (may_stand command words place)) 0 (length words) place none below))
 
 -- a word whose front is the text of an option begins with a dash
 dash-from_front : (count : ℕ) (word rest : List ℕ) → take count word ≡ 45 ∷ rest → begins_with_dash word ≡ true
@@ -72,13 +73,14 @@ abbrev IsScoped : OptionName → Type 0
 IsScoped option = option_named Up (option_text option) ≡ Some (required_once option NoColon)
 
 -- a test under which `up` is found passed
-found_up : (test : Bool) → cond test (Some Up) None ≡ Some Up → test ≡ true
-found_up true h = refl
-found_up false h = cc
+found_up : (test other : Bool) → cond test (Some Up) (cond other (Some State) None) ≡ Some Up → test ≡ true
+found_up true other h = refl
+found_up false true h = cc
+found_up false false h = cc
 
 -- the word that spells the command
 command_word : (word : List ℕ) → command_named word ≡ Some Up → codes "up" ≡ word
-command_word word h = (bytes_eq-Decides (codes "up") word).0 (found_up (bytes_eq (codes "up") word) h)
+command_word word h = (bytes_eq-Decides (codes "up") word).0 (found_up (bytes_eq (codes "up") word) (bytes_eq (codes "state") word) h)
 
 -- which begins with no dash
 command-dash : (word : List ℕ) → codes "up" ≡ word → begins_with_dash word ≡ false
@@ -152,7 +154,7 @@ stands-as words place role h e = sym (ap (λ role. may_stand_as role Up words pl
 fits-following : (option : OptionName) → IsScoped option → (words host : List (List ℕ)) (place : ℕ) → fault_place Up words host ≡ None → name_part (word_at words place) ≡ option_text option → own_value (word_at words place) ≡ None → value_follows words place ≡ true → fits NoColon (word_at words (place + 1)) ≡ true
 fits-following option known words host place faultless named none follows =
     let parts = and_parts _ _ follows in
-    let stood = stands words host (place + 1) faultless (ltb-true _ _ parts.0) in
+    let stood = stands Up words host (place + 1) faultless (ltb-true _ _ parts.0) in
     stands-as words (place + 1) (Value NoColon) stood (role-value option known words place named none (not-true _ parts.1))
 
 -- the value that stands with the option has the form, whether it is its own or follows
@@ -163,7 +165,7 @@ fits-value option known words host place None faultless named none has = fits-fo
 -- the value that was found with the option has the form
 fits-given : (option : OptionName) → IsScoped option → (words host : List (List ℕ)) (value : List ℕ) (place : ℕ) → command_named (word_at words 0) ≡ Some Up → fault_place Up words host ≡ None → IsGivenAt option words value place → fits NoColon (value_at words place) ≡ true
 fits-given option known words host value place spells faultless given =
-    let stood = stands words host place faultless given.within in
+    let stood = stands Up words host place faultless given.within in
     let held = stands-as words place (KnownOption (required_once option NoColon)) stood (role-option option known words value place spells given) in
     fits-value option known words host place (own_value (word_at words place)) faultless given.named refl (and_parts _ _ held).1
 

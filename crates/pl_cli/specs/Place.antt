@@ -1,6 +1,6 @@
 -- The places of the words before the separator: the role of each, and whether the word may stand there.
 -- A place counts from 0, and the list of words has those before the separator alone.
-use Rattle.std.specs.Prelude.{◌==◌, ◌+◌, ◌-◌, ℕ, List, [], Bool, true, false, not, ◌&&◌, ◌||◌, Option, Some, None, length, take, slice_get, slice_index_or, nat_lt, position, count_by, is_some, option_map, unwrap_or, if◌then◌else◌}
+use Rattle.std.specs.Prelude.{◌==◌, ◌+◌, ◌-◌, ℕ, List, [], Bool, true, false, not, ◌&&◌, ◌||◌, Option, Some, None, length, take, slice_get, slice_index_or, nat_lt, position, count_by, find, is_some, option_map, unwrap_or, if◌then◌else◌}
 use Rattle.std.specs.List.{range_with_len}
 use Rattle.std.specs.Option.{option_map_or}
 use Rattle.std.specs.Str.{bytes_eq}
@@ -92,6 +92,12 @@ is_positional (Value _) = false
 unfoldable pub positional_before : CommandName → List (List ℕ) → ℕ → ℕ
 positional_before command words place =
     count_by (λ earlier. is_positional (role_of command words earlier)) (range_with_len 0 place)
+
+-- the first positional word of a command's words
+unfoldable pub first_positional : CommandName → List (List ℕ) → Option (List ℕ)
+first_positional command words =
+    option_map (word_at words)
+    (find (λ place. is_positional (role_of command words place)) (range_with_len 0 (length words)))
 
 -- whether a word at a place may stand there in this role
 abbrev pub may_stand_as : Role → CommandName → List (List ℕ) → ℕ → Bool

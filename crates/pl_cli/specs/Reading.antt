@@ -1,11 +1,13 @@
 -- The words of the command line as a whole.
-use Rattle.std.specs.Prelude.{ℕ, List, [], ◌∷◌, Bool, true, false, not, ◌&&◌, ◌||◌, Option, Some, None, codes, length, nat_le, find, unwrap_or, if◌then◌else◌}
+use Rattle.std.specs.Prelude.{ℕ, option_and_then, List, [], ◌∷◌, Bool, true, false, not, ◌&&◌, ◌||◌, Option, Some, None, codes, length, nat_le, find, unwrap_or, if◌then◌else◌}
 use Rattle.std.specs.List.{list_all, range_with_len, before_first, after_first}
 use Rattle.std.specs.Option.{option_or}
-use Rattle.pl_cli.specs.Table.{command_named, options_of, forms_of, host_rule_of}
+use Rattle.pl_cli.specs.Table.{command_named, options_of, forms_of, host_rule_of, work_named}
 use Rattle.pl_cli.specs.Word.{is_separator}
-use Rattle.pl_cli.specs.Place.{word_at, given_value, is_given, positional_before, may_stand}
+use Rattle.pl_cli.specs.Place.{word_at, given_value, is_given, positional_before, first_positional, may_stand}
 use Rattle.pl_cli.specs.declared.table.CommandName.{CommandName}
+use Rattle.pl_cli.specs.declared.table.CommandName.TheVariants.{State, Up}
+use Rattle.pl_cli.specs.declared.table.StateWork.{StateWork}
 use Rattle.pl_cli.specs.declared.table.OptionName.TheVariants.{File}
 use Rattle.pl_cli.specs.declared.table.HostRule.{HostRule}
 use Rattle.pl_cli.specs.declared.table.HostRule.TheVariants.{OneOrMore, Nothing}
@@ -22,6 +24,16 @@ host_words words = after_first is_separator words
 abbrev pub command_of : List (List ℕ) → Option CommandName
 command_of words = command_named (word_at (engine_words words) 0)
 
+-- whether the command is `state`
+abbrev pub is_state : Option CommandName → Bool
+is_state None = false
+is_state (Some Up) = false
+is_state (Some State) = true
+
+-- whether the first word spells `state`
+abbrev pub spells_state : List (List ℕ) → Bool
+spells_state words = is_state (command_of words)
+
 -- whether a command takes these host words
 abbrev pub host_words_fit : HostRule → List (List ℕ) → Bool
 host_words_fit OneOrMore [] = false
@@ -32,6 +44,10 @@ host_words_fit Nothing (_ ∷ _) = false
 -- whether each option that the command requires is given
 abbrev pub options_given : CommandName → List (List ℕ) → Bool
 options_given command words = list_all (λ row. not row.required || is_given row.option words) (options_of command)
+
+-- the work that the words before the separator give to `state`
+abbrev pub work_given : List (List ℕ) → Option StateWork
+work_given words = option_and_then work_named (first_positional State words)
 
 -- whether nothing is missing: each required option, each positional word, and host words as the command
 -- takes them

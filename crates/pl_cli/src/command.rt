@@ -1,5 +1,6 @@
 ghost use Rattle.std.specs.Prelude.{◌≡◌, IfOk};
 
+use crate::table::StateWork;
 use pl_value::{OutOfMemory, Text, Words};
 use thiserror::Error;
 
@@ -31,6 +32,11 @@ impl RunWords {
 #[derive(Debug, Drop)]
 pub enum Command {
     Up(RunWords),
+    State {
+        /// The path of the checkpoint's file.
+        file: Text,
+        work: StateWork,
+    },
 }
 
 impl Command {
@@ -39,6 +45,10 @@ impl Command {
     {
         match self {
             Command::Up(run) => Ok(Command::Up(run.copy()?)),
+            Command::State { file, work } => Ok(Command::State {
+                file: file.copy()?,
+                work: *work,
+            }),
         }
     }
 }

@@ -7,7 +7,8 @@ mod read;
 mod table;
 
 pub use command::{Command, RunWords, WordFault};
-pub use read::{file_of, read_words};
+pub use read::{file_of, read_words, spells_state};
+pub use table::StateWork;
 
 #[cfg(test)]
 mod tests;

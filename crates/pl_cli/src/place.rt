@@ -1,7 +1,8 @@
-ghost use Rattle.std.specs.Prelude.{◌≡◌, ◌<◌, IfSome, length, map, option_map, position, string_bytes};
+ghost use Rattle.std.specs.Prelude.{◌≡◌, ◌<◌, IfSome, find, length, map, option_map, position, string_bytes};
+ghost use Rattle.std.specs.List.{range_with_len};
 ghost use Rattle.pl_cli.specs.Table.{option_named};
 ghost use Rattle.pl_cli.specs.Word.{begins_with_dash, name_part, own_value};
-ghost use Rattle.pl_cli.specs.Place.{form_after, given_value, has_value, is_positional, may_stand, names_option, positional_before, role_of, value_at, value_follows, word_at};
+ghost use Rattle.pl_cli.specs.Place.{first_positional, form_after, given_value, has_value, is_positional, may_stand, names_option, positional_before, role_of, value_at, value_follows, word_at};
 
 use crate::table::{CommandName, Form, OptionName, OptionRow};
 
@@ -159,6 +160,24 @@ pub fn positional_before(command: CommandName, words: &[String], place: usize) -
     (0..place)
         .filter(|earlier| is_positional(role_of(command, words, *earlier)))
         .count()
+}
+
+/// The place of the first positional word.
+fn positional_place(command: CommandName, words: &[String]) -> Option<usize>
+    ensures { result ≡ find (λ place. is_positional (role_of command (map string_bytes words.now) place)) (range_with_len 0 (length words.now)) }
+{
+    (0..words.len()).find(|place| is_positional(role_of(command, words, *place)))
+}
+
+/// The first positional word.
+#[tactic(auto, using(crate::proofs::Lists::slice_rules), unfolding(crate::specs::Place::first_positional))]
+pub fn first_positional(command: CommandName, words: &[String]) -> Option<&str>
+    ensures { option_map (λ word. word.now) result ≡ first_positional command (map string_bytes words.now) }
+{
+    match positional_place(command, words) {
+        Some(place) => Some(word_at(words, place)),
+        None => None,
+    }
 }
 
 /// Whether the word at a place may stand there, after the words before it.

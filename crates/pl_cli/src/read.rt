@@ -2,12 +2,12 @@ ghost use Rattle.std.specs.Prelude.{◌≡◌, ◌<◌, IfErr, IfOk, IfSome, IsS
 ghost use Rattle.pl_urn.specs.Grammar.{IsScope};
 ghost use Rattle.pl_cli.specs.Word.{is_separator};
 ghost use Rattle.pl_cli.specs.Place.{given_value};
-ghost use Rattle.pl_cli.specs.Reading.{bad_place, command_of, engine_words, fault_place, file_given, file_of, host_words, host_words_fit, is_complete, misplaced_word, options_given};
-ghost use Rattle.pl_cli.specs.Command.{IfUp, IsRefusedAt, name_of};
+ghost use Rattle.pl_cli.specs.Reading.{bad_place, command_of, engine_words, fault_place, file_given, file_of, host_words, host_words_fit, is_complete, misplaced_word, options_given, spells_state, work_given};
+ghost use Rattle.pl_cli.specs.Command.{IfState, IfUp, IsRefusedAt, file_in, name_of};
 
 use crate::command::{Command, RunWords, WordFault};
-use crate::place::{given_value, may_stand, positional_before, word_at};
-use crate::table::{CommandName, HostRule, OptionName, command_named};
+use crate::place::{first_positional, given_value, may_stand, positional_before, word_at};
+use crate::table::{CommandName, HostRule, OptionName, StateWork, command_named, work_named};
 use pl_value::{OutOfMemory, Text, Words};
 use std::alloc::Global;
 
@@ -16,7 +16,7 @@ const USUAL_FILE: &str = "checkpoint.json";
 
 /// Reads the words of the command line, without the program's own name. The stack and the project of what it
 /// answers are names that stand in a URN.
-#[tactic(auto, using(crate::proofs::Completeness::given_stack, crate::proofs::Completeness::given_project, crate::proofs::Scopes::stack_scope, crate::proofs::Scopes::project_scope))]
+#[tactic(auto, using(crate::proofs::Completeness::given_stack, crate::proofs::Completeness::given_project, crate::proofs::Works::given_work, crate::proofs::Scopes::stack_scope, crate::proofs::Scopes::project_scope))]
 pub fn read_words(alloc: Global, words: &[String]) -> Result<Command, WordFault>
     ensures refused { IfErr result (IsRefusedAt (bad_place (map string_bytes words.now))) }
     ensures accepted { OnOk result (bad_place (map string_bytes words.now) ≡ None) }
@@ -27,7 +27,8 @@ pub fn read_words(alloc: Global, words: &[String]) -> Result<Command, WordFault>
         given_value OptionName.Project (engine_words (map string_bytes words.now)) ≡ Some run.project)) }
     ensures stack_scope { IfOk result (IfUp (λ run. IsScope run.stack)) }
     ensures project_scope { IfOk result (IfUp (λ run. IsScope run.project)) }
-    ensures file { IfOk result (IfUp (λ run. run.file ≡ file_given (engine_words (map string_bytes words.now)))) }
+    ensures file { IfOk result (λ command. file_in command ≡ file_given (engine_words (map string_bytes words.now))) }
+    ensures work { IfOk result (IfState (λ work. work_given (engine_words (map string_bytes words.now)) ≡ Some work)) }
     ensures host { IfOk result (IfUp (λ run. run.host ≡ host_words (map string_bytes words.now))) }
 {
     let (engine, host) = split_words(words);
@@ -39,6 +40,7 @@ pub fn read_words(alloc: Global, words: &[String]) -> Result<Command, WordFault>
     }
     match command {
         CommandName::Up => Ok(Command::Up(run_words(alloc, engine, host)?)),
+        CommandName::State => Ok(state_words(alloc, engine)?),
     }
 }
 
@@ -49,9 +51,18 @@ pub fn file_of(alloc: Global, words: &[String]) -> Result<Text, OutOfMemory>
 {
     match read_words(alloc, words) {
         Ok(Command::Up(run)) => Ok(run.file),
+        Ok(Command::State { file, .. }) => Ok(file),
         Err(WordFault::BadWords(_)) => Text::from_str(alloc, USUAL_FILE),
         Err(WordFault::OutOfMemory) => Err(OutOfMemory),
     }
+}
+
+/// Whether the first word spells `state`, be the words a command or not.
+pub fn spells_state(words: &[String]) -> bool
+    ensures { result ≡ spells_state (map string_bytes words.now) }
+{
+    let (engine, _) = split_words(words);
+    matches!(command_named(word_at(engine, 0)), Some(CommandName::State))
 }
 
 /// The place of the first separator.
@@ -140,6 +151,24 @@ fn run_words(alloc: Global, words: &[String], host: &[String]) -> Result<RunWord
         file: Text::from_str(alloc, file_given(words))?,
         host: copy_words(alloc, host)?,
     })
+}
+
+/// The work that the words before the separator give to `state`.
+fn work_given(words: &[String]) -> Option<StateWork>
+    ensures { result ≡ work_given (map string_bytes words.now) }
+{
+    work_named(first_positional(CommandName::State, words)?)
+}
+
+fn state_words(alloc: Global, words: &[String]) -> Result<Command, OutOfMemory>
+    requires work { IsSome (work_given (map string_bytes words.now)) }
+    ensures made { IfOk result (λ command. name_of command ≡ CommandName.State) }
+    ensures file { IfOk result (λ command. file_in command ≡ file_given (map string_bytes words.now)) }
+    ensures work { IfOk result (IfState (λ work. work_given (map string_bytes words.now) ≡ Some work)) }
+{
+    let work = work_given(words).unwrap();
+    let file = Text::from_str(alloc, file_given(words))?;
+    Ok(Command::State { file, work })
 }
 
 /// The path that the words before the separator give, or the usual one.

@@ -1,11 +1,12 @@
 ghost use Rattle.std.specs.Prelude.{◌≡◌};
-ghost use Rattle.pl_cli.specs.Table.{command_named, command_text, fits, forms_of, host_rule_of, option_text, options_of};
+ghost use Rattle.pl_cli.specs.Table.{command_named, command_text, fits, forms_of, host_rule_of, option_text, options_of, work_named, work_text};
 
 /// The commands, each a row of the table: its spelling, its positional words, its options and its rule for
 /// the host's words.
 #[derive(Clone, Copy, Debug, PartialEq, Eq)]
 pub enum CommandName {
     Up,
+    State,
 }
 
 /// The options of all commands.
@@ -16,6 +17,13 @@ pub enum OptionName {
     File,
 }
 
+/// What `state` does: it lists the resources, or checks that the state can be read and tells its size.
+#[derive(Clone, Copy, Debug, PartialEq, Eq)]
+pub enum StateWork {
+    List,
+    Check,
+}
+
 /// What a value or a positional word is like. None of them is empty.
 #[derive(Clone, Copy, Debug, PartialEq, Eq)]
 pub enum Form {
@@ -23,6 +31,8 @@ pub enum Form {
     NoColon,
     /// Any word.
     Word,
+    /// A work of `state`.
+    Work,
 }
 
 /// Which words of the host a command takes.
@@ -41,7 +51,9 @@ pub struct OptionRow {
     pub value: Option<Form>,
 }
 
-const COMMANDS: [CommandName; 1] = [CommandName::Up];
+const COMMANDS: [CommandName; 2] = [CommandName::Up, CommandName::State];
+
+const WORKS: [StateWork; 2] = [StateWork::List, StateWork::Check];
 
 const UP_OPTIONS: [OptionRow; 3] = [
     OptionRow {
@@ -64,6 +76,13 @@ const UP_OPTIONS: [OptionRow; 3] = [
     },
 ];
 
+const STATE_OPTIONS: [OptionRow; 1] = [OptionRow {
+    option: OptionName::File,
+    required: false,
+    repeatable: false,
+    value: Some(Form::Word),
+}];
+
 /// The command of this spelling.
 pub fn command_named(word: &str) -> Option<CommandName>
     ensures { result ≡ command_named word.now }
@@ -74,12 +93,31 @@ pub fn command_named(word: &str) -> Option<CommandName>
         .find(|command| command.text() == word)
 }
 
+/// The work of `state` of this spelling.
+pub fn work_named(word: &str) -> Option<StateWork>
+    ensures { result ≡ work_named word.now }
+{
+    WORKS.iter().copied().find(|work| work.text() == word)
+}
+
+impl StateWork {
+    pub fn text(self) -> &'static str
+        ensures { result.now ≡ work_text self }
+    {
+        match self {
+            StateWork::List => "list",
+            StateWork::Check => "check",
+        }
+    }
+}
+
 impl CommandName {
     pub fn text(self) -> &'static str
         ensures { result.now ≡ command_text self }
     {
         match self {
             CommandName::Up => "up",
+            CommandName::State => "state",
         }
     }
 
@@ -89,6 +127,7 @@ impl CommandName {
     {
         match self {
             CommandName::Up => &[],
+            CommandName::State => &[Form::Work],
         }
     }
 
@@ -97,6 +136,7 @@ impl CommandName {
     {
         match self {
             CommandName::Up => &UP_OPTIONS,
+            CommandName::State => &STATE_OPTIONS,
         }
     }
 
@@ -105,6 +145,7 @@ impl CommandName {
     {
         match self {
             CommandName::Up => HostRule::OneOrMore,
+            CommandName::State => HostRule::Nothing,
         }
     }
 }
@@ -128,6 +169,7 @@ impl Form {
         match self {
             Form::NoColon => !word.is_empty() && !word.as_bytes().contains(&b':'),
             Form::Word => !word.is_empty(),
+            Form::Work => work_named(word).is_some(),
         }
     }
 }

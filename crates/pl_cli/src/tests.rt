@@ -1,12 +1,12 @@
-use crate::{Command, WordFault, file_of, read_words};
+use crate::{Command, WordFault, file_of, read_words, spells_state};
 use pl_value::Words;
 use std::alloc::{AllocError, Global};
 use std::test::Fail;
 
 // A line's words stand between blanks, so that two blanks have an empty word between them; the empty line
 // has no word. Behind it stands what it is read as: the stack, the project, the file where it is not the
-// usual one, and the host's words, or the place at which it is refused.
-const LINES: [(&str, &str); 79] = [
+// usual one, and the host's words, or the work and the file of `state`, or the place at which it is refused.
+const COMMANDS: [(&str, &str); 30] = [
     ("", "bad 0"),
     ("up --stack", "bad 1"),
     ("up --stack dev -- h", "bad 3"),
@@ -40,6 +40,9 @@ const LINES: [(&str, &str); 79] = [
     ("up --stack=a:b --project web -- h", "bad 1"),
     ("up --stack dev --project : -- h", "bad 4"),
     ("up --stack dev --project=w: -- h", "bad 3"),
+];
+
+const OPTIONS: [(&str, &str); 34] = [
     // An option without a value.
     ("up --stack -- h", "bad 1"),
     ("up --stack --project web -- h", "bad 1"),
@@ -91,6 +94,9 @@ const LINES: [(&str, &str); 79] = [
     ("up --stack dev --project web h", "bad 5"),
     ("up --stack dev  --project web -- h", "bad 3"),
     ("up =dev --stack dev --project web -- h", "bad 1"),
+];
+
+const MISSING: [(&str, &str); 15] = [
     // The least place counts.
     ("up --stack a:b --stack c", "bad 2"),
     ("up --stack dev --bad --stack", "bad 3"),
@@ -112,6 +118,35 @@ const LINES: [(&str, &str); 79] = [
     ),
     ("up --stack dev --project web -- h ", "dev web: h "),
     ("up --stack dev --project web -- ", "dev web: "),
+];
+
+const STATES: [(&str, &str); 25] = [
+    // `state`, whose work may stand before and behind its option, and which takes no host.
+    ("state list", "list checkpoint.json"),
+    ("state check", "check checkpoint.json"),
+    ("state list --file f", "list f"),
+    ("state --file f list", "list f"),
+    ("state --file=f check", "check f"),
+    ("state check --file=-f", "check -f"),
+    ("state list --", "list checkpoint.json"),
+    ("state", "bad 1"),
+    ("state --file f", "bad 3"),
+    ("state --file", "bad 1"),
+    ("state --file list", "bad 3"),
+    ("state List", "bad 1"),
+    ("state lists", "bad 1"),
+    ("state delete", "bad 1"),
+    ("state =list", "bad 1"),
+    ("state  list", "bad 1"),
+    ("state list check", "bad 2"),
+    ("state list list", "bad 2"),
+    ("state list --file f --file g", "bad 4"),
+    ("state list --stack dev", "bad 2"),
+    ("state list --file=", "bad 2"),
+    ("state list -- h", "bad 2"),
+    ("state -- list", "bad 1"),
+    ("state -- h", "bad 1"),
+    ("list", "bad 0"),
 ];
 
 fn words_of(alloc: Global, line: &str) -> Result<Vec<String>, AllocError> {
@@ -136,7 +171,14 @@ fn joined(alloc: Global, words: &Words) -> Result<String, AllocError> {
 }
 
 fn shown_command(alloc: Global, command: &Command) -> Result<String, AllocError> {
-    let Command::Up(run) = command;
+    let run = match command {
+        Command::Up(run) => run,
+        Command::State { file, work } => {
+            let work = work.text();
+            let file = file.as_str();
+            return format!(in alloc; "{work} {file}");
+        }
+    };
     let host = joined(alloc, &run.host)?;
     let stack = run.stack.as_str();
     let project = run.project.as_str();
@@ -150,6 +192,7 @@ fn shown_command(alloc: Global, command: &Command) -> Result<String, AllocError>
 fn same_file(alloc: Global, words: &[String], answer: &Result<Command, WordFault>) -> bool {
     let want = match answer {
         Ok(Command::Up(run)) => run.file.as_str(),
+        Ok(Command::State { file, .. }) => file.as_str(),
         Err(_) => "checkpoint.json",
     };
     match file_of(alloc, words) {
@@ -170,17 +213,53 @@ fn shown(alloc: Global, answer: &Result<Command, WordFault>) -> Result<String, A
     }
 }
 
+fn is_right(alloc: Global, line: &str, want: &str) -> Result<bool, AllocError> {
+    let words = words_of(alloc, line)?;
+    let answer = read_words(alloc, words.as_slice());
+    let of_state = line.split(' ').next() == Some("state");
+    Ok(
+        shown(alloc, &answer)?.as_str() == want
+            && spells_state(words.as_slice()) == of_state
+            && same_file(alloc, words.as_slice(), &answer),
+    )
+}
+
+// The first of the lines that is read otherwise.
+fn first_wrong(
+    alloc: Global,
+    lines: &[(&'static str, &'static str)],
+) -> Result<Option<&'static str>, AllocError> {
+    for line in lines {
+        let (line, want) = *line;
+        if !is_right(alloc, line, want)? {
+            return Ok(Some(line));
+        }
+    }
+    Ok(None)
+}
+
+fn wrong_command(alloc: Global) -> Result<Option<&'static str>, AllocError> {
+    first_wrong(alloc, &COMMANDS)
+}
+
+fn wrong_option(alloc: Global) -> Result<Option<&'static str>, AllocError> {
+    first_wrong(alloc, &OPTIONS)
+}
+
+fn wrong_missing(alloc: Global) -> Result<Option<&'static str>, AllocError> {
+    first_wrong(alloc, &MISSING)
+}
+
+fn wrong_state(alloc: Global) -> Result<Option<&'static str>, AllocError> {
+    first_wrong(alloc, &STATES)
+}
+
 #[test]
 fn bad_words_places(rt: HostRuntime) -> Result<(), Fail> {
-    for (line, want) in LINES {
-        let words = words_of(rt.alloc(), line)?;
-        let answer = read_words(rt.alloc(), words.as_slice());
-        let shown = shown(rt.alloc(), &answer)?;
-        assert_eq!(rt; shown.as_str(), want, "at {line:?}");
-        assert!(rt;
-            same_file(rt.alloc(), words.as_slice(), &answer),
-            "at {line:?}"
-        );
-    }
+    let alloc = rt.alloc();
+    assert_eq!(rt; wrong_command(alloc)?, None);
+    assert_eq!(rt; wrong_option(alloc)?, None);
+    assert_eq!(rt; wrong_missing(alloc)?, None);
+    assert_eq!(rt; wrong_state(alloc)?, None);
     Ok(())
 }
