@@ -29,6 +29,7 @@ use Rattle.pl_engine.specs.Answered.{Taken}
 use Rattle.pl_engine.specs.Stored.{Adds}
 use Rattle.pl_engine.specs.Running.{EndedBy, Registered, TakenNow, is_work}
 use Rattle.pl_engine.specs.declared.journal.Journal.{Journal}
+use Rattle.pl_engine.proofs.Forming.{word_formed}
 
 -- how this engine reads a body
 is_success-host : (body : List ℕ) → host_spelling.is_success body ≡ is_success_word (word_of body)
@@ -189,9 +190,13 @@ EndsFit-registered false run body request old new failed going is_body word (ove
 EndsFit-registered false run body request old new failed going is_body word (over, inr (is, want)) stops =
     EndsFit-end run NoMemory old.history new.history going is tt
 
--- a registration that was heard is spelled by its body, and is no provider's
+-- a registration that was heard is spelled by its body, has the form of one, and is no provider's
 pub spelled-heard : (body : List ℕ) (word : HostWord) (request : Request) (n : ℕ) (told : Registration) → IsBody body
     → word_of body ≡ Some word → word ≡ Asks request → Register n told ≡ request → IsSpelled host_spelling (Register n told)
 spelled-heard body word request n told is_body spells is parts =
     let asks : word_of body ≡ Some (Asks (Register n told)) = spells ∙ ap (λ (w : HostWord). Some w) (is ∙ ap (λ (r : Request). Asks r) (sym parts)) in
-    record { form = (body, is_body, request-word body (Register n told) asks); other = word_type_plain body n told asks }
+    record {
+      form = (body, is_body, request-word body (Register n told) asks);
+      formed = word_formed body n told asks;
+      other = word_type_plain body n told asks;
+    }

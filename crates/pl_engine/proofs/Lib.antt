@@ -4,8 +4,11 @@ pub mod Resting
 pub mod Finding
 pub mod Answering
 pub mod Accepting
+pub mod Forming
 pub mod Hearing
 pub mod Ending
+pub mod Basing
 pub mod Beginning
 pub mod Causing
+pub mod Printing
 pub mod Promising

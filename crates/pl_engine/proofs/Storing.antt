@@ -14,9 +14,8 @@ use Rattle.pl_events.specs.declared.event.What.TheVariants.{Kept, Stopped}
 use Rattle.pl_events.specs.declared.event.Stop.{Stop}
 use Rattle.pl_events.specs.declared.event.Stop.TheVariants.{StoreFault, NoMemory}
 use Rattle.pl_world.specs.Told.{Grew, IsKeptOrAdded}
-use Rattle.pl_components.specs.Run.{Fixed}
+use Rattle.pl_components.specs.Run.{Fixed, state_with}
 use Rattle.pl_state.specs.declared.entry.Entry.{Entry}
-use Rattle.pl_state.specs.Component.{bare_state}
 use Rattle.pl_components.specs.Requests.{goals_of}
 use Rattle.pl_components.specs.Entries.{entries_after, new_entries, state_of}
 use Rattle.pl_components.specs.Saves.{IsStory, is_after_save, must_save, prefix_of, saves_of}
@@ -58,7 +57,7 @@ module _ (run : Fixed) (s : Spelling) where
       | inr some ↦ inr (
         some.0,
         same_saves event past marks h.after_saves ∙ some.1
-            ∙ ap (λ (entries : List Entry). some.0 ++ s.state_text (bare_state run.stack entries) ∷ []) (sym (same_entries event past need)),
+            ∙ ap (λ (entries : List Entry). some.0 ++ s.state_text (state_with run entries) ∷ []) (sym (same_entries event past need)),
       )
     ];
   }
@@ -377,5 +376,6 @@ or_wants before now is = is ∙ or_true before
 -- a journal that is consistent with a run has that run's data
 pub run_same : (run : Fixed) (journal : Journal) → Consistent run journal → run_of journal ≡ run
 run_same run journal h =
-    ap (λ (stack : List ℕ). record { stack = stack; project = journal.project }) h.stack
-    ∙ ap (λ (project : List ℕ). record { stack = run.stack; project = project }) h.project
+    ap (λ (stack : List ℕ). record { stack = stack; project = journal.project; name = journal.state.stack; rest = journal.state.rest }) h.stack
+    ∙ ap (λ (project : List ℕ). record { stack = run.stack; project = project; name = journal.state.stack; rest = journal.state.rest }) h.project
+    ∙ ap (λ (state : Snapshot). record { stack = run.stack; project = run.project; name = state.stack; rest = state.rest }) h.state

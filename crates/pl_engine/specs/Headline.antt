@@ -1,5 +1,5 @@
 -- What the top call promises.
-use Rattle.std.specs.Prelude.{⊤, ◌≡◌, ◌⊎◌, ◌<◌, ◌++◌, ℕ, Bool, true, false, IfSome, List, [], ◌∷◌, Option, Some, None, codes, length}
+use Rattle.std.specs.Prelude.{⊤, ◌≡◌, ◌⊎◌, ◌<◌, ◌++◌, ℕ, Bool, true, false, IfSome, List, [], ◌∷◌, Option, Some, None, codes}
 use Rattle.pl_cli.specs.declared.table.OptionName.TheVariants.{Stack, Project}
 use Rattle.pl_cli.specs.Place.{given_value}
 use Rattle.pl_cli.specs.Reading.{bad_place, engine_words}
@@ -20,6 +20,8 @@ use Rattle.pl_components.specs.Due.{IsQuiet}
 use Rattle.pl_components.specs.Legal.{IsLegal}
 use Rattle.pl_components.specs.Fulfilment.{Fulfils}
 use Rattle.pl_engine.specs.Spelled.{host_spelling}
+use Rattle.pl_engine.specs.Content.{IsBad, IsOther, MayBegin}
+use Rattle.pl_engine.specs.Printed.{IsState, IsUp, MayRead}
 use Rattle.pl_engine.specs.Stored.{IsComplete}
 
 -- the state in the record of a call that ended before its run: nothing at all
@@ -54,11 +56,17 @@ abbrev pub command_words : List (List ℕ) → List ℕ → List ℕ → List (L
 command_words host stack project =
     host ++ codes "--stack" ∷ stack ∷ codes "--project" ∷ project ∷ []
 
--- the run's data are those of the words
-pub record IsRunOf (words : List (List ℕ)) (run : Fixed) : Type 0 where
+-- a run of a stack and a project that begins with this state
+abbrev pub run_over : List ℕ → List ℕ → Snapshot → Fixed
+run_over stack project base = record { stack = stack; project = project; name = base.stack; rest = base.rest }
+
+-- the run's data are those of the words and of the state at the start
+pub record IsRunOf (words : List (List ℕ)) (base : Snapshot) (run : Fixed) : Type 0 where
   pub accepted : bad_place words ≡ None
   pub stack : given_value Stack (engine_words words) ≡ Some run.stack
   pub project : given_value Project (engine_words words) ≡ Some run.project
+  pub name : run.name ≡ base.stack
+  pub rest : run.rest ≡ base.rest
 
 -- the outcome of a run: the least problem's, or else want of memory where it was wanted, or else success
 abbrev pub IsFinal : Option Outcome → Bool → Outcome → Type 0
@@ -99,39 +107,59 @@ IsEarly content store spawner Done = ⊥
 IsEarly content store spawner (Failed _ _) = ⊥
 IsEarly content store spawner TooManyResources = ⊥
 IsEarly content store spawner (BadWords place) = ⊥
-IsEarly content store spawner NotBuilt = IfSome content (λ texts. 0 < length texts)
-IsEarly content store spawner (BadCheckpoint _) = ⊥
-IsEarly content store spawner (PendingOperations _) = ⊥
+IsEarly content store spawner NotBuilt = IsOther content NotBuilt
+IsEarly content store spawner (BadCheckpoint why) = IsBad content why
+IsEarly content store spawner (PendingOperations number) = IsOther content (PendingOperations number)
 IsEarly content store spawner StoreFault = store
 IsEarly content store spawner SideFault = ⊥
-IsEarly content store spawner StartFault = IfSome content (λ texts. texts ≡ []) × spawner
+IsEarly content store spawner StartFault = MayBegin content × spawner
 IsEarly content store spawner (PipeFault _) = ⊥
 IsEarly content store spawner SinkFault = ⊥
 IsEarly content store spawner (ChildEnded _) = ⊥
 IsEarly content store spawner (BadFrame _ _) = ⊥
 IsEarly content store spawner OutOfMemory = ⊤
 
--- an outcome of a store that gave no empty content: it has one, or its count rose, or memory was wanted
+-- an outcome of a store over which no run may begin: its content says why, or its count rose, or memory was wanted
 abbrev pub IsUnread : Option (List (List ℕ)) → Type 0 → Outcome → Type 0
 IsUnread content store outcome = IsEarly content store ⊥ outcome
 
--- an outcome from before the run: the words are refused at their place, or are accepted
-abbrev pub IsRefused : List (List ℕ) → Option (List (List ℕ)) → Type 0 → Type 0 → Outcome → Type 0
-IsRefused words content store spawner (BadWords place) = bad_place words ≡ Some place
-IsRefused words content store spawner Done = ⊥
-IsRefused words content store spawner (Failed _ _) = ⊥
-IsRefused words content store spawner TooManyResources = ⊥
-IsRefused words content store spawner NotBuilt = (bad_place words ≡ None) × IsEarly content store spawner NotBuilt
-IsRefused words content store spawner (BadCheckpoint _) = ⊥
-IsRefused words content store spawner (PendingOperations _) = ⊥
-IsRefused words content store spawner SideFault = ⊥
-IsRefused words content store spawner SinkFault = ⊥
-IsRefused words content store spawner StoreFault = (bad_place words ≡ None) × IsEarly content store spawner StoreFault
-IsRefused words content store spawner StartFault = (bad_place words ≡ None) × IsEarly content store spawner StartFault
-IsRefused words content store spawner (PipeFault _) = ⊥
-IsRefused words content store spawner (ChildEnded _) = ⊥
-IsRefused words content store spawner (BadFrame _ _) = ⊥
-IsRefused words content store spawner OutOfMemory = ⊤
+-- an outcome from before the run, or of a command that makes no run: the words are refused at their place, or they are
+-- accepted and the outcome has its cause by the command
+abbrev pub IsRefused : List (List ℕ) → Option (List (List ℕ)) → Type 0 → Type 0 → Type 0 → Outcome → Type 0
+IsRefused words content store spawner sink Done = IsState words × MayRead content
+IsRefused words content store spawner sink (Failed _ _) = ⊥
+IsRefused words content store spawner sink TooManyResources = ⊥
+IsRefused words content store spawner sink (BadWords place) = bad_place words ≡ Some place
+IsRefused words content store spawner sink NotBuilt = IsUp words × IsEarly content store spawner NotBuilt
+IsRefused words content store spawner sink (BadCheckpoint why) = (bad_place words ≡ None) × IsBad content why
+IsRefused words content store spawner sink (PendingOperations number) = IsUp words × IsEarly content store spawner (PendingOperations number)
+IsRefused words content store spawner sink StoreFault = (bad_place words ≡ None) × store
+IsRefused words content store spawner sink SideFault = ⊥
+IsRefused words content store spawner sink StartFault = IsUp words × IsEarly content store spawner StartFault
+IsRefused words content store spawner sink (PipeFault _) = ⊥
+IsRefused words content store spawner sink SinkFault = IsState words × MayRead content × sink
+IsRefused words content store spawner sink (ChildEnded _) = ⊥
+IsRefused words content store spawner sink (BadFrame _ _) = ⊥
+IsRefused words content store spawner sink OutOfMemory = ⊤
+
+-- an outcome of words that need no host: they are refused at their place, or they are of `state` and the outcome has its
+-- cause
+abbrev pub IsOfState : List (List ℕ) → Option (List (List ℕ)) → Type 0 → Type 0 → Outcome → Type 0
+IsOfState words content store sink Done = IsState words × MayRead content
+IsOfState words content store sink (BadWords place) = bad_place words ≡ Some place
+IsOfState words content store sink (BadCheckpoint why) = IsState words × IsBad content why
+IsOfState words content store sink StoreFault = IsState words × store
+IsOfState words content store sink SinkFault = IsState words × MayRead content × sink
+IsOfState words content store sink OutOfMemory = ⊤
+IsOfState words content store sink (Failed _ _) = ⊥
+IsOfState words content store sink TooManyResources = ⊥
+IsOfState words content store sink NotBuilt = ⊥
+IsOfState words content store sink (PendingOperations _) = ⊥
+IsOfState words content store sink SideFault = ⊥
+IsOfState words content store sink StartFault = ⊥
+IsOfState words content store sink (PipeFault _) = ⊥
+IsOfState words content store sink (ChildEnded _) = ⊥
+IsOfState words content store sink (BadFrame _ _) = ⊥
 
 -- the outcome of a host that was not started
 abbrev pub start_outcome_of : Trouble → Outcome

@@ -1,5 +1,5 @@
 -- What the journal keeps beside its history, and how a stop changes the history.
-use Rattle.std.specs.Prelude.{◌≡◌, ℕ, Bool, true, ◌||◌, if◌then◌else◌, is_some, None, List, ◌∷◌}
+use Rattle.std.specs.Prelude.{◌≡◌, ℕ, Bool, true, ◌||◌, if◌then◌else◌, is_some, None, List, ◌∷◌, map}
 use Rattle.pl_events.specs.Closing.{has_stop}
 use Rattle.pl_events.specs.declared.event.Event.{Event}
 use Rattle.pl_events.specs.declared.event.Stop.{Stop}
@@ -7,8 +7,8 @@ use Rattle.pl_events.specs.declared.event.HostEnd.{HostEnd}
 use Rattle.pl_events.specs.declared.event.Request.TheVariants.{Register}
 use Rattle.pl_events.specs.declared.event.What.TheVariants.{Told, HostGone, Kept, Posted, Stopped}
 use Rattle.pl_state.specs.declared.goal.Registration.{Registration}
-use Rattle.pl_state.specs.Component.{bare_state}
-use Rattle.pl_components.specs.Run.{Fixed}
+use Rattle.pl_checkpoint.specs.Pieces.{entry_text}
+use Rattle.pl_components.specs.Run.{Fixed, state_with}
 use Rattle.pl_model.specs.Causes.{has_want}
 use Rattle.pl_components.specs.Problems.{has_problem, least_outcome}
 use Rattle.pl_components.specs.Requests.{last_number}
@@ -19,14 +19,20 @@ use Rattle.pl_engine.specs.declared.journal.Journal.{Journal}
 
 -- the run's fixed data, as the journal keeps them
 abbrev pub run_of : Journal → Fixed
-run_of journal = record { stack = journal.state.stack; project = journal.project }
+run_of journal = record {
+  stack = journal.stack;
+  project = journal.project;
+  name = journal.state.stack;
+  rest = journal.state.rest;
+}
 
 -- what the journal keeps is what its history says, and the history is legal
 pub record Consistent (run : Fixed) (journal : Journal) : Type 0 where
-  pub state : journal.state ≡ bare_state run.stack (new_entries run journal.history)
-  pub stack : journal.state.stack ≡ run.stack
+  pub state : journal.state ≡ state_with run (new_entries run journal.history)
+  pub stack : journal.stack ≡ run.stack
   pub project : journal.project ≡ run.project
   pub entries : journal.state.entries ≡ new_entries run journal.history
+  pub texts : journal.texts ≡ map entry_text journal.state.entries
   pub last : journal.last ≡ last_number journal.history
   pub halted : journal.halted ≡ has_problem journal.history
   pub stopped : journal.stopped ≡ has_stop journal.history

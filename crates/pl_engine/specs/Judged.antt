@@ -13,10 +13,6 @@ use Rattle.pl_components.specs.Entries.{entry_of, has_entry}
 use Rattle.pl_components.specs.Due.{parent_stands}
 use Rattle.pl_engine.specs.declared.judge.Placed.{Placed}
 
--- the run whose state and project these are
-abbrev pub state_run : Snapshot → List ℕ → Fixed
-state_run state project = record { stack = state.stack; project = project }
-
 -- whether a registration may be accepted where these entries are recorded
 abbrev pub is_placeable : Fixed → List Entry → Registration → Bool
 is_placeable run entries told =

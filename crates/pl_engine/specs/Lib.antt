@@ -5,7 +5,10 @@ pub mod Judged
 pub mod Kept
 pub mod Answered
 pub mod Heard
+pub mod Offline
+pub mod Printed
 pub mod Running
 pub mod Headline
 pub mod Caused
+pub mod Content
 pub mod Promise

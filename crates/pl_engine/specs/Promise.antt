@@ -6,7 +6,7 @@ use Rattle.pl_decide.specs.declared.outcome.Outcome.{Outcome}
 use Rattle.pl_decide.specs.declared.outcome.Outcome.TheVariants.{Done}
 use Rattle.pl_events.specs.Closing.{has_host_end}
 use Rattle.pl_events.specs.declared.event.Event.{Event}
-use Rattle.pl_model.specs.Run as model
+use Rattle.pl_model.specs.declared.fixed.Fixed as model
 use Rattle.pl_model.specs.Run.{HasNames}
 use Rattle.pl_model.specs.Due.{IsQuiet, has_open}
 use Rattle.pl_model.specs.Frames.{Causes}

@@ -1,10 +1,12 @@
 ghost use Rattle.pl_model.specs.Problems.{problem_of_end, problem_of_stop};
-ghost use Rattle.std.specs.Prelude.{◌≡◌, ◌+◌, ◌++◌, ◌≤◌, [], ◌∷◌, true, false, ◌||◌, Some, None, is_some, length, IfErr, OnErr, OnOk};
+ghost use Rattle.std.specs.Prelude.{◌≡◌, ◌+◌, ◌++◌, ◌≤◌, [], ◌∷◌, true, false, ◌||◌, Some, None, is_some, length, map, take, IfErr, IfOk, OnErr, OnOk};
+ghost use Rattle.pl_checkpoint.specs.Pieces.{entry_text};
+ghost use Rattle.pl_checkpoint.specs.Spelled.{checkpoint_text};
+ghost use Rattle.pl_engine.specs.Content.{HasNothing};
 ghost use Rattle.pl_engine.specs.Spelled.{host_spelling};
 ghost use Rattle.pl_engine.specs.Journal.{Consistent, end_event, kept_event, posted_event, run_of, stopped_by, told_event};
 ghost use Rattle.pl_events.specs.Closing.{has_host_end};
 ghost use Rattle.pl_components.specs.Requests.{goal_at, goals_of, may_be_next};
-ghost use Rattle.pl_state.specs.Component.{bare_state};
 ghost use Rattle.pl_components.specs.Entries.{entry_if};
 ghost use Rattle.pl_components.specs.Due.{is_keep_due, is_post_due};
 ghost use Rattle.pl_components.specs.Legal.{IsSpelled, StopFits};
@@ -12,11 +14,13 @@ ghost use Rattle.pl_model.specs.Causes.{is_want_end, is_want_stop};
 ghost use Rattle.pl_components.specs.Problems.{first_of, outcome_of_event};
 ghost use Rattle.pl_model.specs.Outcomes.{outcome_of_problem};
 
+use pl_checkpoint::{join_text, spell_entry};
 use pl_decide::{Child, Outcome, Problem};
 use pl_events::{Event, History, HostEnd, Request, Stop, What};
-use pl_state::{Entry, Registration, Snapshot};
-use pl_value::{OutOfMemory, Text};
+use pl_state::{Entries, Entry, Registration, Snapshot};
+use pl_value::{Bytes, OutOfMemory, Text, Texts};
 use std::alloc::Global;
+use std::mem;
 
 /// The seat of the thread that reads the host's messages.
 const REGISTRAR: u64 = 0;
@@ -29,6 +33,9 @@ pub struct Journal {
     pub marks: Vec<u64>,
     /// The state that the history comes to.
     pub state: Snapshot,
+    /// The texts of the state's entries, for the next save.
+    pub texts: Texts,
+    pub stack: Text,
     pub project: Text,
     /// The number of the newest request.
     pub last: u64,
@@ -106,15 +113,53 @@ fn append(history: &mut History, event: Event) -> Result<(), OutOfMemory>
     }
 }
 
+/// Adds an entry and its text; after `OutOfMemory` neither was added.
+fn add_entry(
+    alloc: Global,
+    entries: &mut Entries,
+    texts: &mut Texts,
+    entry: Entry,
+) -> Result<(), OutOfMemory>
+    requires texts { texts.old ≡ map entry_text entries.old }
+    ensures texts { texts.new ≡ map entry_text entries.new }
+    ensures added { OnOk result (entries.new ≡ entries.old ++ entry ∷ []) }
+    ensures unchanged { OnErr result (entries.new ≡ entries.old) }
+{
+    let text = spell_entry(alloc, &entry)?;
+    let count = entries.len();
+    entries.push(entry)?;
+    if texts.push(text).is_err() {
+        entries.truncate(count);
+        return Err(OutOfMemory);
+    }
+    Ok(())
+}
+
+/// Keeps the first texts; takes no memory.
+fn keep_texts(alloc: Global, texts: &mut Texts, count: usize)
+    ensures { texts.new ≡ take count texts.old }
+{
+    let mut kept = mem::replace(texts, Texts::new(alloc)).into_vec();
+    kept.truncate(count);
+    *texts = Texts::from_vec(kept);
+}
+
 impl Journal {
     /// A journal without an event; takes no memory.
-    pub fn new(alloc: Global, history: History, state: Snapshot, project: Text) -> Journal
+    pub fn new(
+        alloc: Global,
+        history: History,
+        state: Snapshot,
+        stack: Text,
+        project: Text,
+    ) -> Journal
         requires history { history ≡ [] }
-        requires state { state ≡ bare_state state.stack [] }
+        requires state { HasNothing state }
         ensures consistent { Consistent (run_of result) result }
         ensures history { result.history ≡ [] }
         ensures marks { result.marks.items ≡ [] }
         ensures state { result.state ≡ state }
+        ensures stack { result.stack ≡ stack }
         ensures project { result.project ≡ project }
         ensures wanted { result.wanted ≡ false }
     {
@@ -122,6 +167,8 @@ impl Journal {
             history,
             marks: Vec::new(alloc),
             state,
+            texts: Texts::new(alloc),
+            stack,
             project,
             last: 0,
             halted: false,
@@ -129,6 +176,16 @@ impl Journal {
             outcome: None,
             wanted: false,
         }
+    }
+
+    /// The checkpoint's bytes of the state.
+    pub fn text(&self, alloc: Global) -> Result<Bytes, OutOfMemory>
+        requires consistent { Consistent (run_of self.now) self.now }
+        ensures { IfOk result (λ bytes. bytes ≡ checkpoint_text self.now.state) }
+    {
+        let no_pending = Texts::new(alloc);
+        let state = &self.state;
+        join_text(alloc, &state.stack, &state.rest, &self.texts, &no_pending)
     }
 
     /// Appends the stop unless one stands; takes no memory.
@@ -175,7 +232,7 @@ impl Journal {
     }
 
     /// Records the entry of a goal; after `OutOfMemory` nothing was recorded.
-    pub fn record(&mut self, goal: u64, entry: Entry) -> Result<(), OutOfMemory>
+    pub fn record(&mut self, alloc: Global, goal: u64, entry: Entry) -> Result<(), OutOfMemory>
         requires consistent { Consistent (run_of self.old) self.old }
         requires due { is_keep_due (run_of self.old) self.old.history goal ≡ true }
         requires entry { entry_if (goal_at (goals_of (run_of self.old) self.old.history) goal) ≡ entry ∷ [] }
@@ -187,13 +244,14 @@ impl Journal {
         ensures stopped { self.new.stopped ≡ self.old.stopped }
     {
         let count = self.state.entries.len();
-        self.state.entries.push(entry)?;
+        add_entry(alloc, &mut self.state.entries, &mut self.texts, entry)?;
         let event = Event {
             seat: REGISTRAR,
             what: What::Kept { goal, fresh: None },
         };
         if append(&mut self.history, event).is_err() {
             self.state.entries.truncate(count);
+            keep_texts(alloc, &mut self.texts, count);
             return Err(OutOfMemory);
         }
         Ok(())

@@ -4,9 +4,11 @@ ghost use Rattle.pl_urn.specs.Grammar.{child_fault, child_text, IsScope};
 ghost use Rattle.pl_state.specs.Component.{component_entry};
 ghost use Rattle.pl_components.specs.Requests.{goal_for};
 ghost use Rattle.pl_components.specs.Due.{parent_stands};
-ghost use Rattle.pl_engine.specs.Judged.{is_placeable, IsPlacedFor, state_run};
+ghost use Rattle.pl_engine.specs.Journal.{run_of};
+ghost use Rattle.pl_engine.specs.Judged.{is_placeable, IsPlacedFor};
 
-use pl_state::{Entries, Entry, Registration, Snapshot};
+use crate::journal::Journal;
+use pl_state::{Entries, Entry, Registration};
 use pl_urn::{Urn, UrnFault, child};
 use pl_value::{OutOfMemory, Text};
 use std::alloc::{AllocError, Global};
@@ -49,25 +51,21 @@ pub struct Placed {
 }
 
 /// Makes the entry of a registration whose parent stands and whose URN is new.
-pub fn place(
-    alloc: Global,
-    state: &Snapshot,
-    project: &Text,
-    told: &Registration,
-) -> Result<Placed, Refusal>
-    requires stack { IsScope state.now.stack }
-    requires project { IsScope project.now }
-    ensures placeable { OnOk result (is_placeable (state_run state.now project.now) state.now.entries told.now ≡ true) }
-    ensures placed { IfOk result (IsPlacedFor (goal_for (state_run state.now project.now) told.now)) }
+pub fn place(alloc: Global, journal: &Journal, told: &Registration) -> Result<Placed, Refusal>
+    requires stack { IsScope journal.now.stack }
+    requires project { IsScope journal.now.project }
+    ensures placeable { OnOk result (is_placeable (run_of journal.now) journal.now.state.entries told.now ≡ true) }
+    ensures placed { IfOk result (IsPlacedFor (goal_for (run_of journal.now) told.now)) }
     ensures refused { result ≡ Err Refusal.NotNext →
-        is_placeable (state_run state.now project.now) state.now.entries told.now ≡ false }
+        is_placeable (run_of journal.now) journal.now.state.entries told.now ≡ false }
 {
     if !told.is_plain() {
         return Err(Refusal::NotNext);
     }
-    let parent = parent_of(&state.entries, told)?;
-    let urn = make_urn(alloc, parent, state, project, told)?;
-    if state.entries.has_urn(urn.as_str()) {
+    let entries = &journal.state.entries;
+    let parent = parent_of(entries, told)?;
+    let urn = make_urn(alloc, parent, &journal.stack, &journal.project, told)?;
+    if entries.has_urn(urn.as_str()) {
         return Err(Refusal::NotNext);
     }
     make_placed(alloc, urn, told, parent)
@@ -91,22 +89,21 @@ fn parent_of<'a>(entries: &'a Entries, told: &Registration) -> Result<Option<&'a
 fn make_urn(
     alloc: Global,
     parent: Option<&Urn>,
-    state: &Snapshot,
+    stack: &Text,
     project: &Text,
     told: &Registration,
 ) -> Result<Urn, Refusal>
-    requires stack { IsScope state.now.stack }
+    requires stack { IsScope stack.now }
     requires project { IsScope project.now }
-    ensures made { IfOk result (λ urn. urn ≡ child_text (option_copied parent.entry) state.now.stack project.now told.now.kind told.now.name) }
+    ensures made { IfOk result (λ urn. urn ≡ child_text (option_copied parent.entry) stack.now project.now told.now.kind told.now.name) }
     ensures allowed { OnOk result (is_none (child_fault told.now.kind told.now.name) ≡ true) }
     ensures refused { result ≡ Err Refusal.NotNext → is_none (child_fault told.now.kind told.now.name) ≡ false }
 {
-    let stack = state.stack.as_str();
     let kind = told.kind.as_str();
     match child(
         alloc,
         parent,
-        stack,
+        stack.as_str(),
         project.as_str(),
         kind,
         told.name.as_str(),

@@ -11,7 +11,6 @@ ghost use Rattle.pl_engine.specs.Caused.{SameAnswerFaults, StoreCaused};
 ghost use Rattle.pl_engine.specs.Kept.{IfFault, IfWant, KeepsStored, Recorded};
 
 use crate::journal::Journal;
-use pl_checkpoint::write;
 use pl_events::Stop;
 use pl_state::Entry;
 use pl_world::{Store, Trouble};
@@ -39,7 +38,7 @@ pub fn keep<S: Store>(
     ensures stored { KeepsStored (run_of journal.old) journal.old journal.new
         (S.faults store.old) (S.faults store.new) (S.story store.old) (S.story store.new) }
 {
-    match journal.record(goal, entry) {
+    match journal.record(alloc, goal, entry) {
         Ok(()) => match save(alloc, journal, store) {
             Ok(()) => true,
             Err(stop) => {
@@ -67,7 +66,7 @@ fn save<S: Store>(alloc: Global, journal: &mut Journal, store: &mut S) -> Result
     ensures want { IfErr result (λ stop. IfWant stop (S.story store.new ≡ S.story store.old)) }
     ensures faults_never_fall { S.faults store.old ≤ S.faults store.new }
 {
-    let Ok(text) = write(alloc, &journal.state) else {
+    let Ok(text) = journal.text(alloc) else {
         return Err(Stop::NoMemory);
     };
     if journal.marks.reserve(1).is_err() {

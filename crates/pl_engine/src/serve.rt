@@ -202,7 +202,7 @@ fn register<S: Store, Q: Pipe>(
     body: Bytes,
 ) -> bool
     requires rest { AtRest (run_of journal.old) journal.old writing.old.failed }
-    requires stack { IsScope journal.old.state.stack }
+    requires stack { IsScope journal.old.stack }
     requires project { IsScope journal.old.project }
     requires spelled { IsSpelled host_spelling (Request.Register n told) }
     ensures did { Registered result (Request.Register n told) body (run_of journal.old) journal.old journal.new writing.new.failed }
@@ -223,7 +223,7 @@ fn register<S: Store, Q: Pipe>(
     if journal.halted {
         return halt(alloc, journal, writing, n, told);
     }
-    match place(alloc, &journal.state, &journal.project, &told) {
+    match place(alloc, journal, &told) {
         Ok(placed) => accept(alloc, journal, store, writing, n, told, placed),
         Err(Refusal::NotNext) => {
             end_messages(alloc, journal, HostEnd::BadFrame(body));
@@ -259,7 +259,7 @@ fn take_up<S: Store, Q: Pipe>(
     body: Bytes,
 ) -> bool
     requires rest { AtRest (run_of journal.old) journal.old writing.old.failed }
-    requires stack { IsScope journal.old.state.stack }
+    requires stack { IsScope journal.old.stack }
     requires project { IsScope journal.old.project }
     requires spelled { (n : ℕ) (told : Registration) → Request.Register n told ≡ request → IsSpelled host_spelling (Request.Register n told) }
     ensures did { Registered result request body (run_of journal.old) journal.old journal.new writing.new.failed }
@@ -291,7 +291,7 @@ fn step<S: Store, Q: Pipe>(
     writing: &mut Writing<Q>,
 ) -> bool
     requires rest { AtRest (run_of journal.old) journal.old writing.old.failed }
-    requires stack { IsScope journal.old.state.stack }
+    requires stack { IsScope journal.old.stack }
     requires project { IsScope journal.old.project }
     ensures stands { Stands result (run_of journal.old) journal.new writing.new.failed }
     ensures taken { KeepsTaken result (run_of journal.old) journal.old.history journal.new.history journal.new.wanted
@@ -334,7 +334,7 @@ pub fn serve<R: Wait, S: Store, Q: Pipe>(
     writing: &mut Writing<Q>,
 )
     requires rest { AtRest (run_of journal.old) journal.old writing.old.failed }
-    requires stack { IsScope journal.old.state.stack }
+    requires stack { IsScope journal.old.stack }
     requires project { IsScope journal.old.project }
     ensures over { Over (run_of journal.old) journal.new writing.new.failed }
     ensures taken { KeepsTaken false (run_of journal.old) journal.old.history journal.new.history journal.new.wanted

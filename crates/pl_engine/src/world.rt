@@ -38,3 +38,11 @@ pub struct Finished<S: Drop, B: Drop, P: Spawner, W: Drop, I: Drop, G: Drop> {
     pub world: World<S, B, P, W, I, G>,
     pub run: RunRecord<P::Pipe>,
 }
+
+/// What came of words without a host: the command was served, or it is one that needs a host, and the world is handed
+/// back untouched.
+#[derive(Drop)]
+pub enum OfflineAnswer<F, W> {
+    Served(F),
+    NotOffline(W),
+}

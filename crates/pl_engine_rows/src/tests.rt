@@ -25,6 +25,39 @@ const FIRST: &str =
 const SECOND: &str =
     r#"{"checkpoint":{"latest":{"manifest":{},"pending_operations":[],"resources":[{"custom":false,"type":"pulumi:pulumi:Stack","urn":"urn:pulumi:dev::web::pulumi:pulumi:Stack::web-dev"},{"custom":false,"parent":"urn:pulumi:dev::web::pulumi:pulumi:Stack::web-dev","type":"my:index:Site","urn":"urn:pulumi:dev::web::my:index:Site::s"}]},"stack":"dev"},"version":3}"#;
 
+/// The URNs of the second text, one a line.
+const URNS: &str =
+    "urn:pulumi:dev::web::pulumi:pulumi:Stack::web-dev\nurn:pulumi:dev::web::my:index:Site::s\n";
+
+/// A state without resources, with unread fields and another name.
+const NOTHING: &str =
+    r#"{"checkpoint":{"latest":{"manifest":{"time":"t"},"secrets_providers":{"type":"p"}},"stack":"prod"},"version":3}"#;
+
+/// The same after the stack's own component was registered.
+const NAMED: &str =
+    r#"{"checkpoint":{"latest":{"manifest":{"time":"t"},"pending_operations":[],"resources":[{"custom":false,"type":"pulumi:pulumi:Stack","urn":"urn:pulumi:dev::web::pulumi:pulumi:Stack::web-dev"}],"secrets_providers":{"type":"p"}},"stack":"prod"},"version":3}"#;
+
+/// A state with a pending operation.
+const WAITING: &str =
+    r#"{"checkpoint":{"latest":{"pending_operations":[{"resource":{"custom":true,"type":"toy:index:Thing","urn":"urn:pulumi:dev::web::toy:index:Thing::a"},"type":"creating"}],"resources":[{"type":"pulumi:pulumi:Stack","urn":"urn:pulumi:dev::web::pulumi:pulumi:Stack::web-dev"}]},"stack":"dev"},"version":3}"#;
+
+/// A state whose component stands before its parent.
+const CHILD_FIRST: &str =
+    r#"{"checkpoint":{"latest":{"resources":[{"parent":"urn:pulumi:dev::web::pulumi:pulumi:Stack::web-dev","type":"my:index:Site","urn":"urn:pulumi:dev::web::my:index:Site::s"},{"type":"pulumi:pulumi:Stack","urn":"urn:pulumi:dev::web::pulumi:pulumi:Stack::web-dev"}]},"stack":"dev"},"version":3}"#;
+
+const LIST: &[&str] = &["state", "list"];
+
+const CHECK: &[&str] = &["state", "check"];
+
+const NO_MESSAGES: &[&str] = &[];
+
+/// Words of `state` that may not stand: no work, and a host.
+const BARE: &[&str] = &["state"];
+
+const HOSTED: &[&str] = &["state", "list", "--", "h"];
+
+const NO_COMMAND: &[&str] = &["list"];
+
 /// What a world in memory is to do.
 #[derive(Drop)]
 struct Script<'a> {
@@ -42,6 +75,7 @@ struct Script<'a> {
     reading_fails: &'a [u64],
     writing_fails: &'a [u64],
     spawner_fails: &'a [u64],
+    sink_fails: &'a [u64],
 }
 
 /// Two components and the word of success.
@@ -62,6 +96,7 @@ fn script_of<'a>(words: &'a [&'a str], messages: &'a [&'a str]) -> Script<'a> {
         reading_fails: &[],
         writing_fails: &[],
         spawner_fails: &[],
+        sink_fails: &[],
     }
 }
 
@@ -129,7 +164,7 @@ fn run<R: Threads + Wait + Sync>(
         store: store_of(alloc, script)?,
         side: MemStore::new(Vec::new(alloc), Vec::new(alloc), Vec::new(alloc)),
         spawner: MemSpawner::new(alloc, scripts, script.spawner_fails.to_vec(alloc)?),
-        sink: MemSink::new(alloc, Vec::new(alloc), Vec::new(alloc)),
+        sink: MemSink::new(alloc, Vec::new(alloc), script.sink_fails.to_vec(alloc)?),
         ids: CountIds::new(),
         gate: FreeGate,
     };
@@ -266,11 +301,166 @@ fn bad_failure<R: Threads + Wait + Sync>(
     Ok(None)
 }
 
-/// Whether nothing is done over a store that has a content.
-fn spares_content<R: Threads + Wait + Sync>(rt: &R, alloc: Global) -> Result<bool, AllocError> {
-    let mut script = plain(TWO);
-    script.content = FIRST;
-    ends_so(rt, alloc, &script, 3, 1, FIRST)
+/// The first content over which no run begins and which is judged otherwise than it should be.
+fn bad_content<R: Threads + Wait + Sync>(
+    rt: &R,
+    alloc: Global,
+) -> Result<Option<&'static str>, AllocError> {
+    for (content, status) in [(FIRST, 3u8), ("{}", 3), (WAITING, 4)] {
+        let mut script = plain(TWO);
+        script.content = content;
+        if !ends_so(rt, alloc, &script, status, 1, content)? {
+            return Ok(Some(content));
+        }
+    }
+    Ok(None)
+}
+
+/// Whether a run over a state without resources keeps its name and its unread fields.
+fn goes_on<R: Threads + Wait + Sync>(rt: &R, alloc: Global) -> Result<bool, AllocError> {
+    let mut script = plain(&[STACK, DONE]);
+    script.content = NOTHING;
+    ends_so(rt, alloc, &script, 0, 2, NAMED)
+}
+
+/// Whether these words over this content end with the status, print the text and leave the content.
+fn prints<R: Threads + Wait + Sync>(
+    rt: &R,
+    alloc: Global,
+    script: &Script<'_>,
+    status: u8,
+    text: &str,
+) -> Result<bool, AllocError> {
+    let ended = run(rt, alloc, script)?;
+    let saves = if script.content.is_empty() { 0 } else { 1 };
+    let printed = ended.world.sink.written() == text.as_bytes();
+    Ok(printed && ended_so(&ended, status, saves, script.content))
+}
+
+/// Whether these words over this content end with the status, print the text and leave the content, where nothing fails.
+fn lists<R: Threads + Wait + Sync>(
+    rt: &R,
+    alloc: Global,
+    words: &'static [&'static str],
+    content: &'static str,
+    status: u8,
+    text: &'static str,
+) -> Result<bool, AllocError> {
+    let mut script = script_of(words, NO_MESSAGES);
+    script.content = content;
+    prints(rt, alloc, &script, status, text)
+}
+
+/// Whether `state` tells what there is.
+fn lists_states<R: Threads + Wait + Sync>(rt: &R, alloc: Global) -> Result<bool, AllocError> {
+    let two = "sound: 2 resources, 0 pending\n";
+    let waiting = "sound: 1 resources, 1 pending\n";
+    Ok(
+        lists(rt, alloc, LIST, EMPTY, 0, "")?
+            && lists(
+                rt,
+                alloc,
+                CHECK,
+                EMPTY,
+                0,
+                "sound: 0 resources, 0 pending\n",
+            )?
+            && lists(rt, alloc, LIST, SECOND, 0, URNS)?
+            && lists(rt, alloc, CHECK, SECOND, 0, two)?
+            && lists(rt, alloc, CHECK, WAITING, 0, waiting)?,
+    )
+}
+
+/// Whether `state` tells why there is no state.
+fn tells_bad_states<R: Threads + Wait + Sync>(rt: &R, alloc: Global) -> Result<bool, AllocError> {
+    let no_json = "stopped: BadCheckpoint NotJson\n";
+    let missing = "stopped: BadCheckpoint MissingField version\n";
+    let unsound = "stopped: BadCheckpoint Unsound\n";
+    Ok(
+        lists(rt, alloc, LIST, "x", 3, no_json)?
+            && lists(rt, alloc, LIST, "{}", 3, missing)?
+            && lists(rt, alloc, CHECK, CHILD_FIRST, 3, unsound)?,
+    )
+}
+
+/// Whether bad words of `state` are told, and those of no command end without a line.
+fn tells_bad_words<R: Threads + Wait + Sync>(rt: &R, alloc: Global) -> Result<bool, AllocError> {
+    Ok(
+        lists(rt, alloc, BARE, SECOND, 2, "stopped: BadWords 1\n")?
+            && lists(rt, alloc, HOSTED, SECOND, 2, "stopped: BadWords 2\n")?
+            && lists(rt, alloc, NO_COMMAND, SECOND, 2, "")?,
+    )
+}
+
+/// Whether faults of the store and of the sink end `state`.
+fn tells_faults<R: Threads + Wait + Sync>(rt: &R, alloc: Global) -> Result<bool, AllocError> {
+    let mut unread = script_of(CHECK, &[]);
+    unread.content = SECOND;
+    unread.store_fails = &[0];
+    let mut unwritten = script_of(LIST, &[]);
+    unwritten.content = SECOND;
+    unwritten.sink_fails = &[0];
+    Ok(
+        prints(rt, alloc, &unread, 5, "stopped: StoreFault\n")?
+            && prints(rt, alloc, &unwritten, 5, "")?,
+    )
+}
+
+/// The text of the bucket of this number, with fields that the engine doesn't read.
+fn bucket(alloc: Global, number: usize) -> Result<String, AllocError> {
+    let secret =
+        r#"{"4dabf18193072939515e22adb298388d":"1b47061264138c4ac30d75fd1eb44270","plaintext":"1"}"#;
+    let mut text = String::from_str(
+        alloc,
+        r#",{"created":"2024-05-01T10:00:00Z","custom":true,"dependencies":[],"initErrors":[],"#,
+    )?;
+    text.push_str(
+        r#""parent":"urn:pulumi:dev::web::pulumi:pulumi:Stack::web-dev","propertyDependencies":{"bucket":null},"#,
+    )?;
+    text.push_str(
+        r#""provider":"urn:pulumi:dev::web::pulumi:providers:aws::default_6_0_0::00000000-0000-4000-8000-000000000001","#,
+    )?;
+    let own = format!(in alloc;
+        r#""id":"b{number}","urn":"urn:pulumi:dev::web::aws:s3/bucket:Bucket::b{number}","#
+    )?;
+    text.push_str(own.as_str())?;
+    let values = format!(in alloc;
+        r#""inputs":{{"__defaults":[],"bucket":"b{number}","key":{secret}}},"outputs":{{"bucket":"b{number}"}},"#
+    )?;
+    text.push_str(values.as_str())?;
+    text.push_str(r#""modified":"2024-05-01T10:00:00Z","type":"aws:s3/bucket:Bucket"}"#)?;
+    Ok(text)
+}
+
+/// The text of a state as Pulumi leaves it: a stack, a default provider, and ten buckets with secrets.
+fn realistic_state(alloc: Global) -> Result<String, AllocError> {
+    let mut text = String::from_str(
+        alloc,
+        r#"{"version":3,"checkpoint":{"stack":"dev","latest":{"manifest":{"magic":"m","time":"2024-05-01T10:00:00Z","version":"v3.115.0"},"secrets_providers":{"type":"passphrase"},"resources":["#,
+    )?;
+    text.push_str(
+        r#"{"custom":false,"type":"pulumi:pulumi:Stack","urn":"urn:pulumi:dev::web::pulumi:pulumi:Stack::web-dev"},"#,
+    )?;
+    text.push_str(
+        r#"{"created":"2024-05-01T10:00:00Z","custom":true,"id":"00000000-0000-4000-8000-000000000001","inputs":{"region":"eu-west-1","version":"6.0.0"},"#,
+    )?;
+    text.push_str(
+        r#""modified":"2024-05-01T10:00:00Z","outputs":{"region":"eu-west-1","version":"6.0.0"},"parent":"","type":"pulumi:providers:aws","urn":"urn:pulumi:dev::web::pulumi:providers:aws::default_6_0_0"}"#,
+    )?;
+    for number in 0..10usize {
+        let bucket = bucket(alloc, number)?;
+        text.push_str(bucket.as_str())?;
+    }
+    text.push_str("]}}}")?;
+    Ok(text)
+}
+
+/// Whether the realistic state is sound.
+fn checks_realistic<R: Threads + Wait + Sync>(rt: &R, alloc: Global) -> Result<bool, AllocError> {
+    let state = realistic_state(alloc)?;
+    let mut script = script_of(CHECK, &[]);
+    script.content = state.as_str();
+    prints(rt, alloc, &script, 0, "sound: 12 resources, 0 pending\n")
 }
 
 /// The first message that may not stand there and of which the outcome has other bytes, or a save is lost.
@@ -338,7 +528,8 @@ fn calls_fail_in_turn(rt: HostRuntime) -> Result<(), Fail> {
 
 #[test]
 fn nothing_is_lost(rt: HostRuntime) -> Result<(), Fail> {
-    assert!(rt; spares_content(&rt, rt.alloc())?, "a content stands");
+    assert_eq!(rt; bad_content(&rt, rt.alloc())?, None);
+    assert!(rt; goes_on(&rt, rt.alloc())?, "unread fields stay");
     assert_eq!(rt; bad_message(&rt, rt.alloc())?, None);
     assert_eq!(rt; refused_at(&rt, rt.alloc(), &[])?, 0);
     assert_eq!(rt; refused_at(&rt, rt.alloc(), &["up", "--stack"])?, 1);
@@ -346,5 +537,15 @@ fn nothing_is_lost(rt: HostRuntime) -> Result<(), Fail> {
         refused_at(&rt, rt.alloc(), &["up", "--stack", "dev", "--", "h"])?,
         3
     );
+    Ok(())
+}
+
+#[test]
+fn states_are_listed(rt: HostRuntime) -> Result<(), Fail> {
+    assert!(rt; lists_states(&rt, rt.alloc())?, "states");
+    assert!(rt; tells_bad_states(&rt, rt.alloc())?, "bad states");
+    assert!(rt; tells_bad_words(&rt, rt.alloc())?, "bad words");
+    assert!(rt; tells_faults(&rt, rt.alloc())?, "faults of store and sink");
+    assert!(rt; checks_realistic(&rt, rt.alloc())?, "a realistic state");
     Ok(())
 }

@@ -8,6 +8,9 @@ use Rattle.pl_engine.proofs.Answering.{Written-step, is_unposted}
 use Rattle.pl_engine.proofs.Storing.{Stored-step}
 use Rattle.pl_engine.proofs.serve.take_up.Goals as goal
 
+pub register-requires-clause-spelled : goal.register-requires-clause-spelled
+register-requires-clause-spelled g c κs within = c.requires.spelled c.in-Some.n c.in-Some.told c.in-Some.ensures.told
+
 pub returns-in-None-clause-stored : goal.returns-in-None-clause-stored
 returns-in-None-clause-stored g c = λ start opened below h.
     Stored-step (run_of c.args.journal.now) host_spelling _ _ c.args.journal.now.wanted c.end_messages.new.journal.wanted

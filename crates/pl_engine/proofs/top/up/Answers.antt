@@ -1,18 +1,18 @@
 use Rattle.std.proofs.Common.{◌≡◌, [], reverse}
 use Rattle.pl_world.specs.Counts.{Rose}
-use Rattle.pl_engine.specs.Headline.{IsUntouched}
+use Rattle.pl_engine.specs.Headline.{IsUntouched, run_over}
 use Rattle.pl_engine.proofs.Promising.{components-promised, legal-promised, lines-promised, outcome-promised, saved-promised, start-promised}
 use Rattle.pl_engine.proofs.top.up.Goals as goal
 
 pub returns-clause-legal : goal.returns-clause-legal
 returns-clause-legal g c =
-    legal-promised (record { stack = c.args.run.stack; project = c.args.run.project }) c.requires.stack c.requires.project
+    legal-promised (run_over c.args.run.stack c.args.run.project c.up_by_components.result.run.base) c.requires.stack c.requires.project
     (reverse c.up_by_components.result.run.history.items) _ c.up_by_components.result.run.wanted
     c.up_by_components.result.run.host (c.up_by_components.result.run.history.items ≡ []) c.up_by_components.ensures.legal
 
 pub returns-clause-saved : goal.returns-clause-saved
 returns-clause-saved g c =
-    saved-promised (record { stack = c.args.run.stack; project = c.args.run.project }) c.requires.stack c.requires.project
+    saved-promised (run_over c.args.run.stack c.args.run.project c.up_by_components.result.run.base) c.requires.stack c.requires.project
     (reverse c.up_by_components.result.run.history.items) _ c.up_by_components.result.run.wanted
     c.up_by_components.result.run.host (c.up_by_components.result.run.history.items ≡ [])
     (IsUntouched c.up_by_components.result.run.marks.items (g.S.Store.story c.args.world.store) (g.S.Store.story c.up_by_components.result.world.store))
@@ -22,14 +22,14 @@ returns-clause-saved g c =
 
 pub returns-clause-host_lines : goal.returns-clause-host_lines
 returns-clause-host_lines g c =
-    lines-promised (record { stack = c.args.run.stack; project = c.args.run.project }) c.requires.stack c.requires.project
+    lines-promised (run_over c.args.run.stack c.args.run.project c.up_by_components.result.run.base) c.requires.stack c.requires.project
     (reverse c.up_by_components.result.run.history.items) _ c.up_by_components.result.run.wanted
     c.up_by_components.result.run.host (c.up_by_components.result.run.history.items ≡ []) _ _ _ _
     c.up_by_components.ensures.legal c.up_by_components.ensures.host_lines
 
 pub returns-clause-outcome : goal.returns-clause-outcome
 returns-clause-outcome g c =
-    outcome-promised (record { stack = c.args.run.stack; project = c.args.run.project }) c.requires.stack c.requires.project
+    outcome-promised (run_over c.args.run.stack c.args.run.project c.up_by_components.result.run.base) c.requires.stack c.requires.project
     (reverse c.up_by_components.result.run.history.items) _ c.up_by_components.result.run.wanted
     c.up_by_components.result.run.host (c.up_by_components.result.run.history.items ≡ []) _
     c.up_by_components.result.run.marks.items c.up_by_components.result.outcome
@@ -38,7 +38,7 @@ returns-clause-outcome g c =
 
 pub returns-clause-start_cause : goal.returns-clause-start_cause
 returns-clause-start_cause g c =
-    start-promised (record { stack = c.args.run.stack; project = c.args.run.project })
+    start-promised (run_over c.args.run.stack c.args.run.project c.up_by_components.result.run.base)
     (reverse c.up_by_components.result.run.history.items) _ c.up_by_components.result.run.wanted
     c.up_by_components.result.run.host (c.up_by_components.result.run.history.items ≡ [])
     (g.P.Spawner.faults c.args.world.spawner) (g.P.Spawner.faults c.up_by_components.result.world.spawner)
@@ -46,7 +46,7 @@ returns-clause-start_cause g c =
 
 pub returns-clause-components : goal.returns-clause-components
 returns-clause-components g c =
-    components-promised (record { stack = c.args.run.stack; project = c.args.run.project })
+    components-promised (run_over c.args.run.stack c.args.run.project c.up_by_components.result.run.base)
     (reverse c.up_by_components.result.run.history.items) _ c.up_by_components.result.run.wanted
     c.up_by_components.result.run.host (c.up_by_components.result.run.history.items ≡ [])
     (IsUntouched c.up_by_components.result.run.marks.items (g.S.Store.story c.args.world.store) (g.S.Store.story c.up_by_components.result.world.store)) _
