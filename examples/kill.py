@@ -1,7 +1,7 @@
 """Kills the program at random moments and looks at what is left: `kill.py PROGRAM [TIMES]`.
 
-Each time a run of 200 components begins with no checkpoint. What it leaves has to be no file, or a whole
-checkpoint in which each resource stands after its parent.
+Each time a run of 200 components begins with no checkpoint. Of what it leaves, `state check` has to say that it is
+sound, with as many resources as the file has and nothing pending.
 """
 
 import json
@@ -22,18 +22,16 @@ def start(program, folder):
     return subprocess.Popen(words, cwd=folder, stderr=subprocess.DEVNULL)
 
 
-def resources(path):
-    """How many resources the checkpoint has; none where there is no file."""
+def resources(program, folder):
+    """How many resources the checkpoint has, which has to be sound; none where there is no file."""
+    path = os.path.join(folder, "checkpoint.json")
     if not os.path.exists(path):
         return None
+    checked = subprocess.run([program, "state", "check"], cwd=folder, capture_output=True, text=True)
     with open(path, encoding="utf-8") as file:
-        checkpoint = json.load(file)
-    assert checkpoint["version"] == 3
-    seen = set()
-    for resource in checkpoint["checkpoint"]["latest"]["resources"]:
-        assert resource.get("parent") is None or resource["parent"] in seen
-        seen.add(resource["urn"])
-    return len(seen)
+        number = len(json.load(file)["checkpoint"]["latest"]["resources"])
+    assert (checked.returncode, checked.stdout) == (0, f"sound: {number} resources, 0 pending\n"), checked
+    return number
 
 
 def killed(program, folder, moment):
@@ -45,7 +43,7 @@ def killed(program, folder, moment):
         run.wait(moment)
     except subprocess.TimeoutExpired:
         run.kill()
-    return run.wait(), resources(path)
+    return run.wait(), resources(program, folder)
 
 
 def main():

@@ -2,12 +2,15 @@
 //! in one line of standard error what came of it.
 #![tactic(auto)]
 
+#[cfg(test)]
+mod real_tests;
 mod report;
 #[cfg(test)]
 mod tests;
 
 use crate::report::{RunFacts, told};
 use pl_cli::file_of;
+use pl_decide::Outcome;
 use pl_engine::{Finished, World, engine};
 use pl_events::{Event, What};
 use pl_os::{Children, FileStore, RandomIds, StandardOutput};
@@ -73,7 +76,8 @@ fn recorded(history: &[Event]) -> usize {
         .count()
 }
 
-/// Carries out the words and tells what came of it; the status is the engine's.
+/// Carries out the words and tells what came of it; the status is the engine's. What `state` prints by standard output
+/// isn't told again.
 fn run<R: Threads + Wait + Sync>(
     threads: &R,
     rt: HostRuntime,
@@ -95,8 +99,9 @@ fn run<R: Threads + Wait + Sync>(
         host: host.as_str(),
         resources: recorded(run.history.as_slice()),
     };
+    let is_shown = run.host.is_none() && matches!(outcome, Outcome::Done);
     world.spawner.finish(run);
-    if let Ok(line) = told(alloc, &outcome, facts) {
+    if !is_shown && let Ok(line) = told(alloc, &outcome, facts) {
         let _ = rt.eprintln(line.as_str());
     }
     Ok(status)

@@ -1,4 +1,6 @@
 use pl_decide::{Child, Outcome, Problem};
+use pl_show::reason_path;
+use pl_state::BadCheckpoint;
 use std::alloc::{AllocError, Global};
 
 /// The most bytes of a bad message that are shown.
@@ -30,11 +32,16 @@ pub fn told(alloc: Global, outcome: &Outcome, facts: RunFacts<'_>) -> Result<Str
             )
         }
         Outcome::NotBuilt => {
-            format!(in alloc; "not built: {file} has a content, which this version doesn't read")
+            format!(in alloc; "not built: {file} has resources, and this version begins with none")
         }
-        Outcome::BadCheckpoint(fault) => format!(in alloc; "{file} is no checkpoint: {fault}"),
+        Outcome::BadCheckpoint(why) => told_bad(alloc, file, why),
+        Outcome::PendingOperations(1) => {
+            format!(in alloc; "{file} has a pending operation, left by a run that was cut short")
+        }
         Outcome::PendingOperations(number) => {
-            format!(in alloc; "{file} has pending operations: {number}")
+            format!(in alloc;
+                "{file} has {number} pending operations, left by a run that was cut short"
+            )
         }
         Outcome::StoreFault => format!(in alloc; "{file} could not be read or replaced"),
         Outcome::SideFault => {
@@ -55,6 +62,14 @@ fn told_done(alloc: Global, facts: RunFacts<'_>) -> Result<String, AllocError> {
         0 => format!(in alloc; "done: no resource was registered, so {file} was not written"),
         1 => format!(in alloc; "done: {file} has 1 resource"),
         number => format!(in alloc; "done: {file} has {number} resources"),
+    }
+}
+
+/// Why the file is no checkpoint, and where in it the fault stands.
+fn told_bad(alloc: Global, file: &str, why: &BadCheckpoint) -> Result<String, AllocError> {
+    match reason_path(why) {
+        "" => format!(in alloc; "{file} is no checkpoint: {why}"),
+        path => format!(in alloc; "{file} is no checkpoint: {why}, at {path}"),
     }
 }
 

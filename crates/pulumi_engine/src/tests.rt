@@ -12,14 +12,16 @@ const FACTS: RunFacts<'static> = RunFacts {
 };
 
 // A line for each outcome, in the order of `outcomes`.
-const LINES: [&str; 19] = [
+const LINES: [&str; 21] = [
     "done: web.json has 2 resources",
     "failed: an answer would be longer than a frame may be",
     "stopped: there would be more resources than a state may have",
     "bad words: what stands at place 3 (counted from 0) may not, or something is missing there",
-    "not built: web.json has a content, which this version doesn't read",
+    "not built: web.json has resources, and this version begins with none",
     "web.json is no checkpoint: no JSON text",
-    "web.json has pending operations: 4",
+    "web.json is no checkpoint: a field is missing, at checkpoint.stack",
+    "web.json has 4 pending operations, left by a run that was cut short",
+    "web.json has a pending operation, left by a run that was cut short",
     "web.json could not be read or replaced",
     "the file of a plan or an import could not be read or written",
     "the host could not be started: node host.js",
@@ -54,7 +56,12 @@ fn outcomes(alloc: Global) -> Result<Vec<Outcome>, Fail> {
         Outcome::BadWords { place: 3 },
         Outcome::NotBuilt,
         Outcome::BadCheckpoint(BadCheckpoint::NotJson),
+        Outcome::BadCheckpoint(BadCheckpoint::MissingField(Text::from_str(
+            alloc,
+            "checkpoint.stack",
+        )?)),
         Outcome::PendingOperations(4),
+        Outcome::PendingOperations(1),
         Outcome::StoreFault,
         Outcome::SideFault,
         Outcome::StartFault,
