@@ -1,4 +1,4 @@
-use Rattle.std.specs.Prelude.{ℕ, ◌+◌, Bool, true, false, ◌||◌, if◌then◌else◌, List, [], ◌∷◌}
+use Rattle.std.specs.Prelude.{Bool, true, false, ◌||◌, List, [], ◌∷◌}
 use Rattle.pl_events.specs.declared.event.Event.{Event}
 use Rattle.pl_events.specs.declared.event.What.{What}
 use Rattle.pl_events.specs.declared.event.What.TheVariants.{HostGone, Stopped}
@@ -22,7 +22,3 @@ has_host_end (event ∷ past) = is_host_end event.what || has_host_end past
 abbrev pub has_stop : List Event → Bool
 has_stop [] = false
 has_stop (event ∷ past) = is_stop event.what || has_stop past
-
--- how many of the two closing events are still to come: the host's end and one stop
-abbrev pub closings_left : List Event → ℕ
-closings_left history = (if has_host_end history then 0 else 1) + (if has_stop history then 0 else 1)

@@ -3,3 +3,4 @@ pub mod Halted
 pub mod Lanes
 pub mod Replies
 pub mod Requests
+pub mod Seen

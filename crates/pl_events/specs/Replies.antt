@@ -1,7 +1,7 @@
 -- Which replies a provider may give to a call.
 use Rattle.std.specs.Prelude.{ℕ, Bool, true, false, not, ◌&&◌, ◌||◌, Option, None, Some, List}
 use Rattle.pl_value.specs.declared.value.Value.{Value}
-use Rattle.pl_state.specs.Component.{has_none}
+use Rattle.pl_lemmas.specs.Words.{has_none}
 pub use Rattle.pl_state.specs.Formed.{are_shallow}
 use Rattle.pl_events.specs.declared.operation.Call.{Call}
 use Rattle.pl_events.specs.declared.operation.Call.TheVariants as call

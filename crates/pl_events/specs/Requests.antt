@@ -1,7 +1,7 @@
 -- Which requests a host may send, their spelling aside.
 use Rattle.std.specs.Prelude.{ℕ, ◌^◌, Bool, true, not, ◌&&◌, nat_lt, Option, None, Some, List}
 use Rattle.pl_value.specs.Keys.{are_rising, keys_of}
-use Rattle.pl_state.specs.Component.{has_none}
+use Rattle.pl_lemmas.specs.Words.{has_none}
 use Rattle.pl_state.specs.Formed.{are_shallow}
 use Rattle.pl_state.specs.declared.goal.Registration.{Registration}
 use Rattle.pl_events.specs.declared.event.Request.{Request}

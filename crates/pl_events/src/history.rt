@@ -1,94 +1,96 @@
-ghost use Rattle.std.specs.Prelude.{◌≡◌, [], ◌∷◌, false, IfErr, IfOk, length, reverse, OnErr, OnOk};
-ghost use Rattle.pl_events.specs.Closing.{has_host_end, has_stop};
+ghost use Rattle.std.specs.Prelude.{◌≡◌, [], ◌∷◌, ◌+◌, ◌-◌, ◌<◌, IfErr, IfOk, length, reverse, OnErr, OnOk};
 
-use crate::event::{Event, HostEnd, Stop, What};
+use crate::event::Event;
 use pl_value::OutOfMemory;
 use std::alloc::Global;
 use std::marker::Model;
 
-/// The events of a run, seen as their list with the newest event first, so that a prefix of the history
-/// is a tail of the list.
-///
-/// There is always room for the host's end and for one stop, so these two are written down without
-/// memory.
+/// The events of a run, and the room that was reserved for more. The newest event is seen first, so that a
+/// prefix of the history is a tail of the list.
 #[derive(Debug, Drop)]
 pub struct History {
     events: Vec<Event>,
+    /// How many events can be appended without memory.
+    room: usize,
 }
 
 impl Model for History {
-    ghost use Rattle.std.specs.Prelude.{List, ◌+◌, ◌≤◌, reverse, length, vec_capacity};
-    ghost use Rattle.std.specs.Coded.{codes, coded_list};
-    ghost use Rattle.pl_events.specs.declared.event.Event.{Event};
+    ghost use Rattle.std.specs.Prelude.{◌+◌, ◌≤◌, reverse, length, vec_capacity};
+    ghost use Rattle.std.specs.Coded.{codes};
     ghost use Rattle.pl_events.specs.contracts.event.Event as row;
-    ghost use Rattle.pl_events.specs.Closing.{closings_left};
+    ghost use Rattle.pl_events.specs.Seen.{Seen};
 
-    ghost Value = { List Event };
+    ghost Value = { Seen };
 
-    ghost coded = { coded_list (Prim.hlevel (codes, row.the_row.coded)) };
+    ghost coded = { Prim.hlevel (codes, row.the_row.coded) };
 
-    ghost view = { λ a. reverse a.events.items };
+    ghost view = { λ a. record { events = reverse a.events.items; room = a.room } };
 
-    ghost invariant = { λ a. length a.events.items + closings_left (reverse a.events.items) ≤ vec_capacity a.events };
+    ghost invariant = { λ a. length a.events.items + a.room ≤ vec_capacity a.events };
 }
 
 impl History {
-    /// No event yet, with room for the closing ones.
-    pub fn new(alloc: Global) -> Result<History, OutOfMemory>
-        ensures { IfOk result (λ made. made ≡ []) }
+    /// Takes no memory.
+    pub fn new(alloc: Global) -> History
+        ensures { result ≡ record { events = []; room = 0 } }
     {
-        let mut events = Vec::new(alloc);
-        events.reserve(2)?;
-        Ok(History { events })
+        History {
+            events: Vec::new(alloc),
+            room: 0,
+        }
     }
 
     /// The number of events.
     pub fn len(&self) -> usize
-        ensures { result ≡ length self.now }
+        ensures { result ≡ length self.now.events }
     {
         self.events.len()
     }
 
-    /// Appends an event; after `OutOfMemory` nothing was appended and the event is handed back.
+    /// The number of events that can be appended without memory.
+    pub fn room(&self) -> usize
+        ensures { result ≡ self.now.room }
+    {
+        self.room
+    }
+
+    /// Makes room for `more` further events. Room that a `usize` cannot count is `OutOfMemory` too.
+    pub fn reserve(&mut self, more: usize) -> Result<(), OutOfMemory>
+        ensures reserved { OnOk result (self.new ≡ record self.old { room = self.old.room + more }) }
+        ensures unchanged { OnErr result (self.new ≡ self.old) }
+    {
+        let Some(room) = self.room.checked_add(more) else {
+            return Err(OutOfMemory);
+        };
+        self.events.reserve(room)?;
+        self.room = room;
+        Ok(())
+    }
+
+    /// Appends an event and leaves the room as it was; after `OutOfMemory` nothing was appended and the event
+    /// is handed back.
     pub fn push(&mut self, event: Event) -> Result<(), (Event, OutOfMemory)>
-        ensures appended { OnOk result (self.new ≡ event ∷ self.old) }
+        ensures appended { OnOk result (self.new ≡ record self.old { events = event ∷ self.old.events }) }
         ensures unchanged { OnErr result (self.new ≡ self.old) }
         ensures back { IfErr result (λ refused. refused.0 ≡ event) }
     {
-        if self.events.reserve(3).is_err() {
+        if self.reserve(1).is_err() {
             return Err((event, OutOfMemory));
         }
-        self.events
-            .push(event)
-            .map_err(|refused| (refused.value, OutOfMemory))
+        self.push_reserved(event);
+        Ok(())
     }
 
-    /// Appends the host's end; takes no memory.
-    pub fn push_host_end(&mut self, seat: u64, end: HostEnd)
-        requires { has_host_end self.old ≡ false }
-        ensures { self.new ≡ record { seat = seat; what = What.HostGone end } ∷ self.old }
+    /// Appends an event where room was reserved; takes no memory.
+    pub fn push_reserved(&mut self, event: Event)
+        requires { 0 < self.old.room }
+        ensures { self.new ≡ record { events = event ∷ self.old.events; room = self.old.room - 1 } }
     {
-        self.events
-            .push(Event {
-                seat,
-                what: What::HostGone(end),
-            })
-            .unwrap();
+        self.events.push_reserved(event);
+        self.room -= 1;
     }
 
-    /// Appends a stop; takes no memory.
-    pub fn push_stop(&mut self, seat: u64, stop: Stop)
-        requires { has_stop self.old ≡ false }
-        ensures { self.new ≡ record { seat = seat; what = What.Stopped stop } ∷ self.old }
-    {
-        self.events
-            .push(Event {
-                seat,
-                what: What::Stopped(stop),
-            })
-            .unwrap();
-    }
-
+    /// Copies the events and reserves the same room.
     pub fn copy(&self, alloc: Global) -> Result<History, OutOfMemory>
         ensures { IfOk result (λ made. made ≡ self.now) }
     {
@@ -96,15 +98,18 @@ impl History {
         for event in &self.events {
             copied.push(event.copy(alloc)?)?;
         }
-        copied.reserve(2)?;
-        Ok(History { events: copied })
+        copied.reserve(self.room)?;
+        Ok(History {
+            events: copied,
+            room: self.room,
+        })
     }
 
     /// Gives the events back, the oldest first; takes no memory.
     pub fn into_events(self) -> Vec<Event>
-        ensures { reverse result.items ≡ self }
+        ensures { reverse result.items ≡ self.events }
     {
-        let History { events } = self;
+        let History { events, room: _ } = self;
         events
     }
 }

@@ -5,8 +5,6 @@ mod event;
 mod history;
 mod operation;
 mod reply;
-#[cfg(test)]
-mod tests;
 
 pub use event::{Answer, Event, HostEnd, Request, Stop, What};
 pub use history::History;
