@@ -2,6 +2,7 @@
 use Rattle.std.proofs.Common.{◌≡◌, ◌||◌, Bool, true, false, List, [], ◌∷◌, ◌++◌, map, refl, ap, ◌∙◌}
 use Rattle.std.proofs.lemmas.List.Folds.{list_any-append}
 use Rattle.std.specs.List.{flat_map, list_any}
+use Rattle.pl_lemmas.proofs.Lists.{any_mapped}
 use Rattle.pl_state.specs.declared.entry.Entry.{Entry}
 use Rattle.pl_state.specs.declared.fault.Missing.{Missing}
 use Rattle.pl_state.specs.declared.fault.Missing.TheVariants.{Twice, Parent, Provider, Dependency, DeletedWith}
@@ -10,10 +11,6 @@ use Rattle.pl_sound.specs.declared.seen.Seen.{Seen}
 use Rattle.pl_sound.specs.Seen.{gives, has_text, HasOneMore}
 use Rattle.pl_sound.specs.Sound.{is_met}
 use Rattle.pl_chain.specs.Given.{is_given}
-
-list_any-map : {X Y : Type 0} (p : Y → Bool) (f : X → Y) (xs : List X) → list_any p (map f xs) ≡ list_any (λ x. p (f x)) xs
-list_any-map p f [] = refl
-list_any-map p f (x ∷ xs) = ap (λ (b : Bool). p (f x) || b) (list_any-map p f xs)
 
 list_any-flat_map : {X Y : Type 0} (p : Y → Bool) (f : X → List Y) (xs : List X) → list_any p (flat_map f xs) ≡ list_any (λ x. list_any p (f x)) xs
 list_any-flat_map p f [] = refl
@@ -46,9 +43,9 @@ refers-kinds seen row =
     let deleter : List Missing = optional_refs DeletedWith row.deleted_with in
     let any_urn : Bool = list_any (has_text seen.urns) row.dependencies in
     let any_property : Bool = list_any (λ pair. list_any (has_text seen.urns) pair.1) row.property_dependencies in
-    let of_urns : list_any given urns ≡ any_urn = list_any-map given Dependency row.dependencies in
+    let of_urns : list_any given urns ≡ any_urn = any_mapped given Dependency row.dependencies in
     let of_properties : list_any given properties ≡ any_property =
-    list_any-map given Dependency (property_urns row.property_dependencies)
+    any_mapped given Dependency (property_urns row.property_dependencies)
     ∙ list_any-flat_map (has_text seen.urns) (λ pair. pair.1) row.property_dependencies in
     list_any-append given parent (provider ++ (urns ++ (properties ++ deleter)))
     ∙ ap (λ (b : Bool). list_any given parent || b) (list_any-append given provider (urns ++ (properties ++ deleter))

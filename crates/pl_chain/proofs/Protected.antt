@@ -5,12 +5,9 @@ use Rattle.std.proofs.lemmas.List.Elements.{filter_map-append}
 use Rattle.std.proofs.lemmas.List.Folds.{find-append}
 use Rattle.std.specs.List.{find, slice_get}
 use Rattle.std.specs.Option.{option_map, option_or}
+use Rattle.pl_lemmas.proofs.Options.{mapped_or}
 use Rattle.pl_state.specs.Chain.{first_protected, goes_along, rows_at}
 use Rattle.pl_state.specs.declared.entry.Entry.{Entry}
-
-option_map-option_or : {X Y : Type 0} (f : X → Y) (a b : Option X) → option_map f (option_or a b) ≡ option_or (option_map f a) (option_map f b)
-option_map-option_or f None b = refl
-option_map-option_or f (Some x) b = refl
 
 abbrev protected_row : (ℕ → Bool) → ℕ × Entry → Bool
 protected_row claims row = goes_along claims row && row.1.protect
@@ -20,7 +17,7 @@ pub first_protected-append : (claims : ℕ → Bool) (rows : List Entry) (xs ys 
 first_protected-append claims rows xs ys =
     ap (λ (l : List (ℕ × Entry)). first_protected claims l) (filter_map-append (λ place. option_map (λ row. (place, row)) (slice_get rows place)) xs ys)
     ∙ ap (option_map (λ row. row.1)) (find-append (protected_row claims) (rows_at rows xs) (rows_at rows ys))
-    ∙ option_map-option_or (λ row. row.1) (find (protected_row claims) (rows_at rows xs)) (find (protected_row claims) (rows_at rows ys))
+    ∙ mapped_or (λ row. row.1) (find (protected_row claims) (rows_at rows xs)) (find (protected_row claims) (rows_at rows ys))
 
 -- the first protected row of a chain with one place more
 pub first_protected-more : (claims : ℕ → Bool) (rows : List Entry) (places : List ℕ) (i : ℕ) → i < length places → first_protected claims (rows_at rows (take i places)) ≡ None → None ≡ first_protected claims (rows_at rows (get_or places i 0 ∷ [])) → first_protected claims (rows_at rows (take (i + 1) places)) ≡ None

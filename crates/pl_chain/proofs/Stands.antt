@@ -3,7 +3,8 @@ use Rattle.std.proofs.Common.{◌≡◌, ◌<◌, ◌≤◌, ◌+◌, ◌&&◌, 
 use Rattle.std.proofs.lemmas.Bool.{cases_lt, false≢true, le-ltb, lt-ltb}
 use Rattle.std.proofs.lemmas.List.Folds.{list_any-append}
 use Rattle.std.specs.List.{list_any, slice_get}
-use Rattle.pl_state.specs.Chain.{chain_among, chain_with, joins, refers_to, some_passes}
+use Rattle.pl_lemmas.specs.Words.{some_passes}
+use Rattle.pl_state.specs.Chain.{chain_among, chain_with, joins, refers_to}
 use Rattle.pl_state.specs.References.{meets, names_row, refs}
 use Rattle.pl_state.specs.declared.entry.Entry.{Entry}
 use Rattle.pl_state.specs.declared.fault.Missing.{Missing}

@@ -5,8 +5,6 @@ mod chained;
 mod claimed;
 mod fault;
 mod referring;
-#[cfg(test)]
-mod tests;
 
 pub use chained::chain;
 pub use fault::ChainFault;

@@ -9,6 +9,3 @@ mod table;
 pub use command::{Command, RunWords, WordFault};
 pub use read::{file_of, read_words, spells_state};
 pub use table::StateWork;
-
-#[cfg(test)]
-mod tests;

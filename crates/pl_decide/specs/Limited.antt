@@ -2,7 +2,8 @@
 use Rattle.std.specs.Prelude.{ℕ, Bool, true, false, not, ◌&&◌, ◌||◌, if◌then◌else◌, find, option_map, Option, None, Some, List}
 use Rattle.std.specs.Option.{option_or}
 use Rattle.pl_value.specs.declared.value.Value.{Value}
-use Rattle.pl_state.specs.Chain.{first_protected, some_passes}
+use Rattle.pl_lemmas.specs.Words.{some_passes}
+use Rattle.pl_state.specs.Chain.{first_protected}
 use Rattle.pl_state.specs.declared.entry.Entry.{Entry}
 use Rattle.pl_state.specs.declared.goal.Diffed.{Diffed}
 use Rattle.pl_state.specs.declared.goal.Goal.{Goal}

@@ -4,8 +4,7 @@ use Rattle.std.specs.Prelude.{ℕ, Bool, true, false, not, ◌&&◌, ◌||◌, i
 use Rattle.std.specs.Bool.{beq}
 use Rattle.pl_value.specs.Same.{fields_same}
 use Rattle.pl_value.specs.declared.value.Value.{Value}
-use Rattle.pl_state.specs.Chain.{some_passes}
-use Rattle.pl_state.specs.Component.{has_none}
+use Rattle.pl_lemmas.specs.Words.{has_none, some_passes}
 use Rattle.pl_state.specs.Kinds.{is_importing_goal, is_provided, is_reading_goal, kin_of}
 use Rattle.pl_state.specs.References.{is_id}
 use Rattle.pl_state.specs.declared.entry.Entry.{Entry}

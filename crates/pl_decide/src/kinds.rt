@@ -3,13 +3,13 @@ ghost use Rattle.std.specs.Option.{option_copied};
 ghost use Rattle.pl_state.specs.Kinds.{is_component, is_default_name, is_importing_goal, is_managed, is_of_default, is_of_provider, is_provided, is_reading_goal, kin_of};
 
 use pl_state::{Entry, Goal};
-use pl_urn::Urn;
+use pl_urn::{Urn, is_provider_type};
 
 /// Whether a URN is that of a provider.
 pub fn is_of_provider(urn: &Urn) -> bool
     ensures { result ≡ is_of_provider urn.now }
 {
-    urn.own_type().starts_with("pulumi:providers:")
+    is_provider_type(urn.own_type())
 }
 
 /// Whether a URN is that of a default provider.

@@ -9,8 +9,6 @@ mod outcome;
 mod permitted;
 mod problem;
 mod table;
-#[cfg(test)]
-mod tests;
 mod vectors;
 
 pub use decision::{Decision, ProviderChange};

@@ -1,6 +1,6 @@
 ghost use Rattle.std.specs.Prelude.{◌≡◌, ◌↔◌, ◌||◌, IfOk, IsTrue};
 ghost use Rattle.std.specs.Option.{option_copied};
-ghost use Rattle.pl_state.specs.Chain.{some_passes};
+ghost use Rattle.pl_lemmas.specs.Words.{some_passes};
 ghost use Rattle.pl_state.specs.References.{is_id};
 ghost use Rattle.pl_value.specs.Same.{fields_same};
 ghost use Rattle.pl_decide.specs.Table.{by_diff, custom_differs, decide, decide_kin, decide_over, decide_provided, decide_reading, is_conflict, is_other_provider, kept, kin_needs_diff, needs_diff, replacement, said};

@@ -6,8 +6,9 @@ use Rattle.std.proofs.lemmas.List.Elements.{filter-append}
 use Rattle.std.proofs.lemmas.List.Kept.{IsStrictlyIncreasing-filter}
 use Rattle.std.specs.List.{Contains, filter, range_with_len}
 use Rattle.std.specs.List.Sorted.{IsStrictlyIncreasing}
+use Rattle.pl_lemmas.proofs.Numbers.{range_more}
 use Rattle.pl_graph.specs.Edges.{dependents_of, refers}
-use Rattle.pl_graph.proofs.Members.{contains_from_has, has, has-contained, has-filter, has-range, range_more, range-rises}
+use Rattle.pl_graph.proofs.Members.{contains_from_has, has, has-contained, has-filter, has-range, range-rises}
 
 -- the numbers below one more that pass
 pub filter-range_more : (test : ℕ → Bool) (n : ℕ)

@@ -6,6 +6,7 @@ use Rattle.std.proofs.lemmas.List.Folds.{find-append}
 use Rattle.std.specs.Prelude.{nat_le}
 use Rattle.std.specs.List.{find}
 use Rattle.std.specs.Option.{option_map, option_or, is_some, IsNone}
+use Rattle.pl_lemmas.proofs.Options.{neither}
 use Rattle.pl_graph.specs.Edges.{edges_from, first_out_of_order, is_out_of_order, IsInOrder}
 use Rattle.pl_graph.proofs.Members.{has}
 
@@ -69,11 +70,6 @@ below_none row (target ∷ others) below =
     ap (λ (b : Bool). cond b (Some target) (first_target row others))
     (lt-leb row target (below target (or_left (target == target) (has others target) (eq-eqb target target refl))))
     ∙ below_none row others (λ to h. below to (or_right (target == to) (has others to) h))
-
--- what neither of two gives
-neither : {X : Type 0} (one other : Option X) → option_or one other ≡ None → (one ≡ None) × (other ≡ None)
-neither None other h = (refl, h)
-neither (Some x) other h = absurd (let e : Some x ≡ None = h in cc)
 
 no_target : (row : ℕ) (target : Option ℕ) → edge_to row target ≡ None → target ≡ None
 no_target row None h = refl

@@ -4,8 +4,6 @@
 
 mod graph;
 mod marks;
-#[cfg(test)]
-mod tests;
 
 pub use graph::Graph;
 pub use pl_text::{OutOfMemory, Rows};

@@ -1,3 +1,4 @@
+pub mod Above
 pub mod Levels
 pub mod MemberKeys
 pub mod Members

@@ -57,7 +57,7 @@ keys_next done e fields v same =
 
 -- ---- the value under a key
 
-same_text : (xs : List ℕ) → slice_cmp nat_cmp xs xs ≡ Equal
+pub same_text : (xs : List ℕ) → slice_cmp nat_cmp xs xs ≡ Equal
 same_text xs = tied_itself nat_list_cmp_total xs
 
 get_member-middle : (done : List Entry) (e : Entry) (left : List Entry) → Rise (done ++ e ∷ left)
@@ -72,14 +72,14 @@ get_member-middle (first ∷ done) e left rise =
 ok_same : (a b : Value) → ◌≡◌ {A = Result Value JsonFault} (Ok a) (Ok b) → a ≡ b
 ok_same a b same = cc
 
-text_unmarked : (text : List ℕ) → bytes_eq text secret_mark ≡ false → is_unmarked (text_read text) ≡ true
+pub text_unmarked : (text : List ℕ) → bytes_eq text secret_mark ≡ false → is_unmarked (text_read text) ≡ true
 text_unmarked text other = by_case (bytes_eq text unknown_text)
   where
     by_case : (t : Bool) → is_unmarked (cond t value.Unknown (value.Text text)) ≡ true
     by_case true = refl
     by_case false = ap not other
 
-unmarked_by : (levels : ℕ) (d : Data) (v : Value) → marked_by (Some d) ≡ Ok false → read_in levels d ≡ Ok v → is_unmarked v ≡ true
+pub unmarked_by : (levels : ℕ) (d : Data) (v : Value) → marked_by (Some d) ≡ Ok false → read_in levels d ≡ Ok v → is_unmarked v ≡ true
 unmarked_by levels null v plain read = cc
 unmarked_by levels (boolean b) v plain read = cc
 unmarked_by levels (number n) v plain read = cc

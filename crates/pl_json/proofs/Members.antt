@@ -1,14 +1,14 @@
 -- The members of an object that are put in one after another, with rising keys.
-use Rattle.std.proofs.Common.{◌≡◌, ℕ, zero, suc, ◌+◌, ◌<◌, Bool, true, List, [], ◌∷◌, length, take, get_or, Less, Equal, Greater, Ordering, refl, ap, ◌∙◌, arith}
+use Rattle.std.proofs.Common.{◌≡◌, ℕ, zero, suc, ◌+◌, ◌<◌, Bool, true, List, [], ◌∷◌, length, take, get_or, Less, Greater, refl, ap, ◌∙◌, arith}
 use Rattle.std.proofs.lemmas.Bool.{and_parts}
 use Rattle.std.specs.Cmp.Lexicographic.{slice_cmp}
 use Rattle.std.specs.List.{list_all}
 use Rattle.std.specs.Ordering.{nat_cmp}
-use Rattle.pl_value.specs.Keys.{are_rising, is_below, is_less, keys_of}
+use Rattle.pl_value.specs.Keys.{are_rising, is_below, keys_of}
 use Rattle.pl_value.specs.declared.value.Value.{Value}
 use Rattle.pl_value.specs.IsValue.{are_fields}
 use Rattle.pl_value.proofs.FieldParts.{are_fields-parts}
-use Rattle.pl_value.proofs.Rising.{reversed}
+use Rattle.pl_value.proofs.Rising.{reversed, less_from}
 use Rattle.serde_json.specs.Data.{member, put}
 use Rattle.pl_json.specs.Spelled.{spelled, spelled_members}
 
@@ -23,11 +23,6 @@ below_at low [] place d within all = absurd (omega arith)
 below_at low (field ∷ more) zero d within all = (and_parts (is_below low field.0) (list_all (is_below low) (keys_of more)) all).0
 below_at low (field ∷ more) (suc place) d within all =
     below_at low more place d (omega arith) (and_parts (is_below low field.0) (list_all (is_below low) (keys_of more)) all).1
-
-pub less_from : (o : Ordering) → is_less o ≡ true → o ≡ Less
-less_from Less below = refl
-less_from Equal below = cc
-less_from Greater below = cc
 
 above : (a b : List ℕ) → is_below a b ≡ true → slice_cmp nat_cmp b a ≡ Greater
 above a b below = reversed a b Less (less_from _ below)

@@ -1,31 +1,29 @@
 -- No spelling of a value has a float.
-use Rattle.std.proofs.Common.{◌≡◌, ℕ, ℤ, pos, negsuc, false, List, [], ◌∷◌, map, refl, ap, subst, ◌∙◌}
+use Rattle.std.proofs.Common.{◌≡◌, ℕ, ℤ, pos, negsuc, false, List, [], ◌∷◌, refl, ap, subst, ◌∙◌}
 use Rattle.pl_value.specs.declared.value.Value.{Value, roll-Value}
 use Rattle.pl_value.specs.declared.value.Value.TheOpen.{Value-F}
 use Rattle.pl_value.specs.declared.value.Value.TheFolds.{ind-Value, map-Value, fold-roll-Value}
 use Rattle.serde_json.specs.Data.{Data}
 use Rattle.serde_json.specs.Find.{of_integer, is_float}
 use Rattle.serde_json.specs.Written.{has_float, items_have_float, members_have_float}
+use Rattle.pl_value.proofs.Kept.{Having, opened, values_of, pairs_of}
 use Rattle.pl_json.specs.Spelled.{spelled, spelled_level, spelled_items, spelled_members}
 
 abbrev HasNone : Value → Type 0
 HasNone one = has_float (spelled one) ≡ false
 
 abbrev Kept : Type 0
-Kept = (one : Value) × HasNone one
-
-abbrev opened : Value-F Kept → Value-F Value
-opened y = map-Value Kept Value (λ e. e.0) y
+Kept = Having HasNone
 
 of_integer_is_whole : (whole : ℤ) → is_float (of_integer whole) ≡ false
 of_integer_is_whole (pos n) = refl
 of_integer_is_whole (negsuc n) = refl
 
-items_have_none : (kept : List Kept) → items_have_float (spelled_items (map (λ (e : Kept). e.0) kept)) ≡ false
+items_have_none : (kept : List Kept) → items_have_float (spelled_items (values_of kept)) ≡ false
 items_have_none [] = refl
 items_have_none (one ∷ more) = rw (one.1) (items_have_none more)
 
-members_have_none : (kept : List (List ℕ × Kept)) → members_have_float (spelled_members (map (λ field. (field.0, field.1.0)) kept)) ≡ false
+members_have_none : (kept : List (List ℕ × Kept)) → members_have_float (spelled_members (pairs_of kept)) ≡ false
 members_have_none [] = refl
 members_have_none (field ∷ more) = rw (field.1.1) (members_have_none more)
 

@@ -9,7 +9,7 @@ use Rattle.json.specs.Tree as tree
 use Rattle.json.specs.Token.{Token}
 use Rattle.json.proofs.Printed.Tokens.{tokens-print}
 use Rattle.json.proofs.Printed.Trees.{value-json_tokens, ArePrintable-json_tokens}
-use Rattle.pl_value.proofs.Rising.{reversed}
+use Rattle.pl_value.proofs.Rising.{reversed, less_from}
 use Rattle.pl_value.specs.Keys.{is_below}
 use Rattle.serde_json.specs.Data.{Num, Data, null, boolean, number, string, array, object, Items, no_items, item, Members, no_members, member, put, depth, items_depth, members_depth}
 use Rattle.serde_json.specs.Find.{of_integer}
@@ -17,7 +17,6 @@ use Rattle.serde_json.specs.Read.{number_of, of_json, of_items, of_members, max_
 use Rattle.serde_json.specs.Written.{number_text, compact_text, outline, items_outline, members_outline}
 use Rattle.serde_json.proofs.Numbers.{number_of-decimal, number_of-negative}
 use Rattle.serde_json.proofs.Texts.{print-outline}
-use Rattle.pl_json.proofs.Members.{less_from}
 use Rattle.pl_json.proofs.TextTells.{IsWhole, HasWholes, ItemsHaveWholes, MembersHaveWholes, HasNumbers-outline}
 use Rattle.pl_json.specs.Fits.{fits}
 
@@ -118,7 +117,7 @@ mutual
       ∙ ap Some (then_next done key d ms)
 
 mutual
-  depth-outline : (d : Data) → tree.depth (outline d) ≡ depth d
+  pub depth-outline : (d : Data) → tree.depth (outline d) ≡ depth d
   depth-outline null = refl
   depth-outline (boolean b) = refl
   depth-outline (number n) = refl
@@ -136,7 +135,7 @@ mutual
 
 -- ---- the text
 
-abbrev whole : Option (json.Json × List Token) → Option Data
+abbrev pub whole : Option (json.Json × List Token) → Option Data
 whole o = option_and_then of_json (option_and_then (λ p. json.if_last p.0 p.1) o)
 
 read_outline : (d : Data) (deep : ℕ) → HasWholes d → Rises d → depth d ≤ deep → whole (json.value deep (tokens (compact_text d))) ≡ Some d

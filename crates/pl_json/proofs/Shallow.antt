@@ -1,40 +1,17 @@
 -- What is read is no deeper than it may be.
-use Rattle.std.proofs.Common.{◌≡◌, ℕ, ℤ, zero, suc, ◌+◌, ◌≤◌, Bool, true, false, cond, bytes_eq, List, Option, Some, None, Result, Ok, Err, IfOk, refl, sym, ap, subst, ◌∙◌, arith}
+use Rattle.std.proofs.Common.{◌≡◌, ℕ, ℤ, zero, suc, ◌+◌, ◌≤◌, Bool, true, false, cond, bytes_eq, List, Option, Some, None, Result, Ok, Err, IfOk, refl, subst, arith}
 use Rattle.std.specs.Result.{result_map_both}
-use Rattle.pl_value.proofs.Levels.{depth-Object}
-use Rattle.pl_value.specs.Inside.{depth, depth_level, greatest_depth, greatest_field_depth}
+use Rattle.pl_value.proofs.Levels.{depth-Object, depth-Null, depth-Flag, depth-Whole, depth-Text, depth-List, depth-Secret, depth-Unknown}
+use Rattle.pl_value.specs.Inside.{depth, greatest_depth, greatest_field_depth}
 use Rattle.pl_value.specs.Marks.{unknown_text}
 use Rattle.pl_value.specs.declared.json.JsonFault.{JsonFault}
 use Rattle.pl_value.specs.declared.value.Value.{Value}
-use Rattle.pl_value.specs.declared.value.Value.TheOpen.{Value-F}
 use Rattle.pl_value.specs.declared.value.Value.TheVariants as value
-use Rattle.pl_value.specs.declared.value.Value.TheFolds.{fold-roll-Value}
 use Rattle.serde_json.specs.Data.{Data, null, boolean, number, string, array, object, Items, no_items, item, Members, no_members, member}
 use Rattle.serde_json.specs.Find.{as_i64}
 use Rattle.serde_json.specs.Read.{read}
 use Rattle.pl_json.specs.Faults.{with_fault}
 use Rattle.pl_json.specs.Read.{Reading, deepest, whole_read, text_read, before, element_read, items_read, members_read, is_marked, plaintext_read, secret_by, object_by, read_in}
-
-depth-Null : depth value.Null ≡ 0
-depth-Null = ap depth (sym value.rolls-Null) ∙ fold-roll-Value ℕ depth_level Value-F.Null
-
-depth-Flag : (flag : Bool) → depth (value.Flag flag) ≡ 0
-depth-Flag flag = ap depth (sym (value.rolls-Flag flag)) ∙ fold-roll-Value ℕ depth_level (Value-F.Flag flag)
-
-depth-Whole : (whole : ℤ) → depth (value.Whole whole) ≡ 0
-depth-Whole whole = ap depth (sym (value.rolls-Whole whole)) ∙ fold-roll-Value ℕ depth_level (Value-F.Whole whole)
-
-depth-Text : (text : List ℕ) → depth (value.Text text) ≡ 0
-depth-Text text = ap depth (sym (value.rolls-Text text)) ∙ fold-roll-Value ℕ depth_level (Value-F.Text text)
-
-depth-Unknown : depth value.Unknown ≡ 0
-depth-Unknown = ap depth (sym value.rolls-Unknown) ∙ fold-roll-Value ℕ depth_level Value-F.Unknown
-
-depth-List : (values : List Value) → depth (value.List values) ≡ greatest_depth values + 1
-depth-List values = ap depth (sym (value.rolls-List values)) ∙ fold-roll-Value ℕ depth_level (Value-F.List values)
-
-depth-Secret : (inner : Value) → depth (value.Secret inner) ≡ depth inner + 1
-depth-Secret inner = ap depth (sym (value.rolls-Secret inner)) ∙ fold-roll-Value ℕ depth_level (Value-F.Secret inner)
 
 -- a value that was read is no deeper
 abbrev Within : ℕ → Reading → Type 0

@@ -1,6 +1,6 @@
 -- A value is read from its spelling.
 use Rattle.std.proofs.Common.{◌≡◌, ℕ, ℤ, zero, suc, pos, negsuc, ◌+◌, ◌≤◌, Bool, true, false, not, ◌||◌, cond, bytes_eq, List, [], ◌∷◌, map, Option, Some, None, Result, Ok, Ordering, Less, Equal, Greater, is_eq, refl, sym, ap, ap₂, subst, ◌∙◌, arith}
-use Rattle.std.proofs.lemmas.Bool.{and_parts}
+use Rattle.std.proofs.lemmas.Bool.{and_parts, not-true}
 use Rattle.std.proofs.lemmas.List.Folds.{list_all-map}
 use Rattle.std.proofs.lemmas.Map.Text.{is_eq-slice_cmp}
 use Rattle.std.proofs.lemmas.Slice.Eq.{bytes_eq-Decides}
@@ -21,6 +21,7 @@ use Rattle.pl_value.specs.declared.value.Value.TheFolds.{ind-Value, map-Value, f
 use Rattle.serde_json.specs.Data.{Data, null, boolean, string, member, no_members, depth as nesting}
 use Rattle.serde_json.specs.Find.{as_i64, get_member, of_integer}
 use Rattle.serde_json.specs.Read.{read, max_depth}
+use Rattle.pl_value.proofs.Kept.{Having, opened, values_of, pairs_of}
 use Rattle.pl_json.specs.Faults.{with_fault, behind, hidden, placed, key_step, element_step}
 use Rattle.pl_json.specs.Fits.{fits, wholes_fit, wholes_fit_level}
 use Rattle.pl_json.specs.Laws.{SpelledIsRead, TextIsRead, FieldsAreRead, FieldsTextIsRead}
@@ -49,12 +50,8 @@ as_i64-whole : (whole : ℤ) → fits whole ≡ true → as_i64 (of_integer whol
 as_i64-whole (pos n) small = ap (λ t. cond t (Some (pos n)) None) small
 as_i64-whole (negsuc n) small = refl
 
-false_of : (t : Bool) → not t ≡ true → t ≡ false
-false_of true is = cc
-false_of false is = refl
-
 text_read-same : (text : List ℕ) → not (bytes_eq text unknown_text) ≡ true → text_read text ≡ value.Text text
-text_read-same text other = ap (λ t. cond t value.Unknown (value.Text text)) (false_of _ other)
+text_read-same text other = ap (λ t. cond t value.Unknown (value.Text text)) (not-true _ other)
 
 text_read-unknown : text_read unknown_text ≡ value.Unknown
 unfolding unknown_text
@@ -74,7 +71,7 @@ plain_level Value-F.Null = subst IsPlain (sym value.rolls-Null) (λ unmarked. cc
 plain_level (Value-F.Flag flag) = subst IsPlain (sym (value.rolls-Flag flag)) (λ unmarked. cc)
 plain_level (Value-F.Whole whole) = subst IsPlain (sym (value.rolls-Whole whole)) (λ unmarked. cc)
 plain_level (Value-F.Text text) =
-    subst IsPlain (sym (value.rolls-Text text)) (λ unmarked. ap (λ d. marked_by (Some d)) (spelled-Text text) ∙ ap Ok (false_of _ unmarked))
+    subst IsPlain (sym (value.rolls-Text text)) (λ unmarked. ap (λ d. marked_by (Some d)) (spelled-Text text) ∙ ap Ok (not-true _ unmarked))
 plain_level (Value-F.List values) = subst IsPlain (sym (value.rolls-List values)) (λ unmarked. cc)
 plain_level (Value-F.Object fields) = subst IsPlain (sym (value.rolls-Object fields)) (λ unmarked. cc)
 plain_level (Value-F.Secret inner) = subst IsPlain (sym (value.rolls-Secret inner)) (λ unmarked. cc)
@@ -112,16 +109,7 @@ abbrev Reads : Value → Type 0
 Reads one = (levels : ℕ) → is_value one ≡ true → wholes_fit one ≡ true → depth one ≤ levels → levels ≤ max_depth → read_in levels (spelled one) ≡ Ok one
 
 abbrev Kept : Type 0
-Kept = (one : Value) × Reads one
-
-abbrev opened : Value-F Kept → Value-F Value
-opened y = map-Value Kept Value (λ e. e.0) y
-
-abbrev values_of : List Kept → List Value
-values_of kept = map (λ (e : Kept). e.0) kept
-
-abbrev pairs_of : List (List ℕ × Kept) → List (List ℕ × Value)
-pairs_of kept = map (λ field. (field.0, field.1.0)) kept
+Kept = Having Reads
 
 abbrev all_fit : List Value → Bool
 all_fit values = list_all (λ fit. fit) (map wholes_fit values)

@@ -15,6 +15,7 @@ use Rattle.pl_value.proofs.Levels.{is_value-Object}
 use Rattle.serde_json.specs.Data.{Data, string}
 use Rattle.serde_json.specs.Find.{of_integer}
 use Rattle.serde_json.specs.Written.{compact_text}
+use Rattle.pl_value.proofs.Kept.{Having, opened, values_of, pairs_of}
 use Rattle.pl_json.specs.Fits.{wholes_fit, wholes_fit_level}
 use Rattle.pl_json.specs.Laws.{SpellingTellsValue, TextTellsValue, TextTellsFields}
 use Rattle.pl_json.specs.Spelled.{spelled, spelled_level, spelled_items, spelled_members, secret_data}
@@ -87,16 +88,7 @@ abbrev Tells : Value → Type 0
 Tells one = (other : Value) → is_value one ≡ true → is_value other ≡ true → wholes_fit one ≡ true → wholes_fit other ≡ true → spelled one ≡ spelled other → one ≡ other
 
 abbrev Kept : Type 0
-Kept = (one : Value) × Tells one
-
-abbrev opened : Value-F Kept → Value-F Value
-opened y = map-Value Kept Value (λ e. e.0) y
-
-abbrev values_of : List Kept → List Value
-values_of kept = map (λ (e : Kept). e.0) kept
-
-abbrev pairs_of : List (List ℕ × Kept) → List (List ℕ × Value)
-pairs_of kept = map (λ field. (field.0, field.1.0)) kept
+Kept = Having Tells
 
 abbrev all_seen : List Value → Bool
 all_seen values = list_all (λ one. one.1) (map seen values)

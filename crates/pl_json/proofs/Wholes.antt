@@ -6,6 +6,7 @@ use Rattle.pl_value.specs.declared.value.Value.{Value, roll-Value}
 use Rattle.pl_value.specs.declared.value.Value.TheOpen.{Value-F}
 use Rattle.pl_value.specs.declared.value.Value.TheFolds.{ind-Value, map-Value, fold-roll-Value}
 use Rattle.serde_json.specs.Data.{Data}
+use Rattle.pl_value.proofs.Kept.{Having, opened, values_of, pairs_of}
 use Rattle.pl_json.specs.Fits.{wholes_fit, wholes_fit_level}
 use Rattle.pl_json.specs.Spelled.{spelled, spelled_level, spelled_items, spelled_members}
 use Rattle.pl_json.proofs.TextTells.{HasWholes, ItemsHaveWholes, MembersHaveWholes}
@@ -14,29 +15,23 @@ abbrev Spells : Value → Type 0
 Spells one = wholes_fit one ≡ true → HasWholes (spelled one)
 
 abbrev Kept : Type 0
-Kept = (one : Value) × Spells one
+Kept = Having Spells
 
-abbrev opened : Value-F Kept → Value-F Value
-opened y = map-Value Kept Value (λ e. e.0) y
-
-items_have_wholes : (kept : List Kept) → list_all (λ fit. fit) (map wholes_fit (map (λ (e : Kept). e.0) kept)) ≡ true
-    → ItemsHaveWholes (spelled_items (map (λ (e : Kept). e.0) kept))
+items_have_wholes : (kept : List Kept) → list_all (λ fit. fit) (map wholes_fit (values_of kept)) ≡ true
+    → ItemsHaveWholes (spelled_items (values_of kept))
 items_have_wholes [] all = tt
 items_have_wholes (one ∷ more) all =
-    let parts = and_parts (wholes_fit one.0) (list_all (λ fit. fit) (map wholes_fit (map (λ (e : Kept). e.0) more))) all in
+    let parts = and_parts (wholes_fit one.0) (list_all (λ fit. fit) (map wholes_fit (values_of more))) all in
     (one.1 parts.0, items_have_wholes more parts.1)
-
-abbrev pairs : List (List ℕ × Kept) → List (List ℕ × Value)
-pairs fields = map (λ field. (field.0, field.1.0)) fields
 
 abbrev pub fitting : List (List ℕ × Value) → List (List ℕ × Bool)
 fitting fields = map (λ field. (field.0, wholes_fit field.1)) fields
 
-members_have_wholes : (kept : List (List ℕ × Kept)) → list_all (λ field. field.1) (fitting (pairs kept)) ≡ true
-    → MembersHaveWholes (spelled_members (pairs kept))
+members_have_wholes : (kept : List (List ℕ × Kept)) → list_all (λ field. field.1) (fitting (pairs_of kept)) ≡ true
+    → MembersHaveWholes (spelled_members (pairs_of kept))
 members_have_wholes [] all = tt
 members_have_wholes (field ∷ more) all =
-    let parts = and_parts (wholes_fit field.1.0) (list_all (λ one. one.1) (fitting (pairs more))) all in
+    let parts = and_parts (wholes_fit field.1.0) (list_all (λ one. one.1) (fitting (pairs_of more))) all in
     (field.1.1 parts.0, members_have_wholes more parts.1)
 
 wholes_level : (y : Value-F Kept) → wholes_fit_level (map-Value Value Bool wholes_fit (opened y)) ≡ true

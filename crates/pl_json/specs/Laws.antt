@@ -1,5 +1,6 @@
 -- What the spelling of a value tells, and that it is read as the value.
 use Rattle.std.specs.Prelude.{◌≡◌, ◌≤◌, ℕ, List, Some, Ok}
+use Rattle.pl_value.specs.Depth.{most_levels}
 use Rattle.pl_value.specs.Inside.{depth, greatest_field_depth}
 use Rattle.pl_value.specs.IsValue.{IsValue, AreFields}
 use Rattle.pl_value.specs.declared.value.Value.{Value}
@@ -29,20 +30,20 @@ TextTellsFields =
 -- a value that isn't too deep is what its spelling reads as
 abbrev pub SpelledIsRead : Type 0
 SpelledIsRead =
-    (path : List ℕ) (one : Value) → IsValue one → WholesFit one → depth one ≤ 64 → value_read path (spelled one) ≡ Ok one
+    (path : List ℕ) (one : Value) → IsValue one → WholesFit one → depth one ≤ most_levels → value_read path (spelled one) ≡ Ok one
 
 -- the text of such a value is JSON, and that JSON is its spelling
 abbrev pub TextIsRead : Type 0
-TextIsRead = (one : Value) → IsValue one → WholesFit one → depth one ≤ 64 → read (value_text one) ≡ Some (spelled one)
+TextIsRead = (one : Value) → IsValue one → WholesFit one → depth one ≤ most_levels → read (value_text one) ≡ Some (spelled one)
 
 -- fields of such values are what the spelling of their object reads as
 abbrev pub FieldsAreRead : Type 0
 FieldsAreRead =
-    (path : List ℕ) (fields : List (List ℕ × Value)) → AreFields fields → FieldsFit fields → greatest_field_depth fields ≤ 64
+    (path : List ℕ) (fields : List (List ℕ × Value)) → AreFields fields → FieldsFit fields → greatest_field_depth fields ≤ most_levels
     → fields_read path (spelled_fields fields) ≡ Ok fields
 
 -- the text of such an object is JSON, and that JSON is its spelling
 abbrev pub FieldsTextIsRead : Type 0
 FieldsTextIsRead =
-    (fields : List (List ℕ × Value)) → AreFields fields → FieldsFit fields → greatest_field_depth fields ≤ 64
+    (fields : List (List ℕ × Value)) → AreFields fields → FieldsFit fields → greatest_field_depth fields ≤ most_levels
     → read (fields_text fields) ≡ Some (spelled_fields fields)

@@ -7,8 +7,6 @@ mod laws;
 mod path;
 mod reading;
 mod spelling;
-#[cfg(test)]
-mod tests;
 mod texts;
 
 pub use fault::FieldsFault;

@@ -1,5 +1,6 @@
 ghost use Rattle.std.specs.Prelude.{◌≡◌, ◌≢◌, ◌+◌, ◌≤◌, IfErr, IfOk, IfSome, None, Some, Ok, Err, [], false, option_map};
 ghost use Rattle.pl_value.specs.Inside.{depth, greatest_field_depth};
+ghost use Rattle.pl_value.specs.Depth.{most_levels};
 ghost use Rattle.pl_value.specs.IsValue.{IsValue};
 ghost use Rattle.serde_json.specs.Find.{as_i64, get_member};
 ghost use Rattle.serde_json.specs.Read as json;
@@ -9,7 +10,9 @@ ghost use Rattle.pl_json.specs.Read as spec;
 use crate::fault::FieldsFault;
 use crate::keys::{ciphertext_key, plaintext_key};
 use crate::path::{in_element, in_field, in_secret, in_value, no_path};
-use pl_value::{Fields, JsonFault, Text, Value, Values, secret_key, secret_mark, unknown_text};
+use pl_value::{
+    Fields, JsonFault, MOST_LEVELS, Text, Value, Values, secret_key, secret_mark, unknown_text,
+};
 use serde_json::{Map, Number, Value as Json};
 use sqlite_items::Boxed;
 use std::alloc::Global;
@@ -20,7 +23,7 @@ pub fn read_value(alloc: Global, json: &Json, path: &str) -> Result<Value, JsonF
     ensures refused { IfErr result (λ fault. fault ≢ JsonFault.OutOfMemory
         → spec.value_read path.now (view json.now) ≡ Err fault) }
     ensures sound { IfOk result (λ value. IsValue value) }
-    ensures shallow { IfOk result (λ value. depth value ≤ 64) }
+    ensures shallow { IfOk result (λ value. depth value ≤ most_levels) }
 {
     match read(alloc, json, deepest()) {
         Ok(value) => Ok(value),
@@ -34,7 +37,7 @@ pub fn read_fields(alloc: Global, json: &Json, path: &str) -> Result<Fields, Fie
     ensures read { IfOk result (λ fields. spec.fields_read path.now (view json.now) ≡ Ok fields) }
     ensures refused { IfErr result (λ fault. fault ≢ FieldsFault.Json JsonFault.OutOfMemory
         → spec.fields_read path.now (view json.now) ≡ Err fault) }
-    ensures shallow { IfOk result (λ fields. greatest_field_depth fields ≤ 64) }
+    ensures shallow { IfOk result (λ fields. greatest_field_depth fields ≤ most_levels) }
 {
     let Json::Object(members) = json else {
         return Err(FieldsFault::WrongKind);
@@ -51,7 +54,7 @@ fn fields_in(alloc: Global, members: &Map<String, Json>) -> Result<Option<Fields
     ensures read { IfOk result (λ fields. spec.unless_secret (members_view members.now.entries) ≡ Ok fields) }
     ensures refused { IfErr result (λ fault. fault ≢ JsonFault.OutOfMemory
         → spec.unless_secret (members_view members.now.entries) ≡ Err fault) }
-    ensures shallow { IfOk result (λ fields. IfSome fields (λ found. greatest_field_depth found ≤ 64)) }
+    ensures shallow { IfOk result (λ fields. IfSome fields (λ found. greatest_field_depth found ≤ most_levels)) }
 {
     if is_marked(alloc, members)? {
         read_secret(alloc, members, deepest())?;
@@ -64,7 +67,7 @@ fn fields_in(alloc: Global, members: &Map<String, Json>) -> Result<Option<Fields
 fn deepest() -> u64
     ensures { result ≡ spec.deepest }
 {
-    64
+    MOST_LEVELS
 }
 
 /// The value, in which so many lists, objects and secrets may stand in each other. The path of a fault begins at it.

@@ -1,13 +1,13 @@
 -- What reading one text after another finds.
 use Rattle.std.proofs.Common.{◌≡◌, ◌<◌, ℕ, suc, ◌+◌, add-one, Bool, true, false, not, cond, List, [], ◌∷◌, Option, Some, None, Result, drop, length, get_or, sym, ap, ◌∙◌, refl}
-use Rattle.std.specs.Prelude.{All, IfOk, if◌then◌else◌}
+use Rattle.std.specs.Prelude.{All, IfOk}
 use Rattle.std.specs.Option.{option_or}
 use Rattle.std.proofs.lemmas.List.Elements.{All-cons, All-nil}
 use Rattle.std.proofs.lemmas.List.Folds.{find-append}
 use Rattle.std.proofs.Math.Seq.{drop-cons}
 use Rattle.pl_state.specs.declared.fault.OptionFault.{OptionFault}
 use Rattle.pl_state.specs.References.{property_urns}
-use Rattle.pl_options.specs.GoalOf.{first_bad, unless}
+use Rattle.pl_options.specs.GoalOf.{first_bad}
 use Rattle.pl_options.specs.Refused.{IsRefusedText, IsRefusedFor}
 use Rattle.pl_options.specs.declared.fault.BadText.{BadText}
 use Rattle.pl_options.specs.declared.fault.BadText.TheVariants as text
@@ -26,18 +26,6 @@ refused_for part whole goal.OutOfMemory same h = tt
 -- what the first part finds, the whole finds
 pub found_first : {X : Type 0} (part rest : Option X) (found : X) → part ≡ Some found → option_or part rest ≡ Some found
 found_first part rest found e = rw e refl
-
--- the first of some texts is refused
-bad_first : (passes : Bool) (one : List ℕ) (later : Option (List ℕ)) (told : List ℕ) → (if passes then None else Some one) ≡ Some told → cond (not passes) (Some one) later ≡ Some told
-bad_first true one later told e = absurd cc
-bad_first false one later told e = e
-
-pub first_bad_here : (passes : List ℕ → Bool) (one : List ℕ) (more : List (List ℕ)) (told : List ℕ) → unless passes (Some one) ≡ Some told → first_bad passes (one ∷ more) ≡ Some told
-first_bad_here passes one more told e = bad_first (passes one) one (first_bad passes more) told e
-
--- it passes, so that the others are looked at
-pub first_bad_later : (passes : List ℕ → Bool) (one : List ℕ) (more : List (List ℕ)) → passes one ≡ true → first_bad passes (one ∷ more) ≡ first_bad passes more
-first_bad_later passes one more e = rw e refl
 
 -- the texts of a pair, and then those of the others
 pub first_bad_keyed : (passes : List ℕ → Bool) (pair : List ℕ × List (List ℕ)) (more : List (List ℕ × List (List ℕ))) → first_bad passes (property_urns (pair ∷ more)) ≡ option_or (first_bad passes pair.1) (first_bad passes (property_urns more))

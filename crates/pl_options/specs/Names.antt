@@ -1,19 +1,12 @@
 -- The names and ids that the engine makes by itself.
-use Rattle.std.specs.Prelude.{ℕ, ◌||◌, ◌==◌, if◌then◌else◌, List, ◌++◌, Option, None, Some, map, codes}
+use Rattle.std.specs.Prelude.{ℕ, ◌||◌, ◌==◌, if◌then◌else◌, List, ◌++◌, Option, None, Some, map}
 use Rattle.std.specs.Int.{to_be_bytes, w128}
 use Rattle.uuid.specs.Parts.{with_variant, with_version}
 use Rattle.uuid.specs.Text.{hyphenated_text, lower}
 use Rattle.uuid.specs.declared.Variant.TheVariants.{RFC4122}
 use Rattle.uuid.specs.declared.Version.TheVariants.{Random}
+use Rattle.pl_state.specs.Kinds.{default_prefix, default_text}
 use Rattle.pl_urn.specs.Grammar.{child_text, provider_prefix}
-
--- the name of a default provider without a version
-abbrev pub default_text : List ℕ
-default_text = codes "default"
-
--- what such a name begins with where there is a version
-abbrev pub default_prefix : List ℕ
-default_prefix = codes "default_"
 
 -- a byte of a version as it stands in a name: `_` for each `.`, `-` and `+`
 abbrev pub name_byte : ℕ → ℕ

@@ -2,7 +2,6 @@ ghost use Rattle.std.specs.Prelude.{◌≡◌, IfErr, IfOk, List, None, ℕ, Ok,
 ghost use Rattle.std.specs.Option.{option_copied};
 ghost use Rattle.pl_path.specs.Grammar as path;
 ghost use Rattle.pl_state.specs.declared.fault.OptionFault.TheVariants as option;
-ghost use Rattle.pl_urn.specs.Grammar as urn;
 ghost use Rattle.pl_urn.specs.Grammar.{child_text, IsScope};
 ghost use Rattle.pl_options.specs.GoalOf as spec;
 ghost use Rattle.pl_options.specs.Refused.{HasPaths, IsRefusalOf, IsRefusedFor, IsRefusedText, references_of};
@@ -12,7 +11,7 @@ use crate::reading::{References, copy_given, given, read_references};
 use pl_path::PathFault;
 use pl_reference::Urns;
 use pl_state::{Goal, OptionFault, Registration};
-use pl_urn::{Urn, UrnFault};
+use pl_urn::{Urn, UrnFault, is_provider_type};
 use pl_value::{OutOfMemory, Texts};
 use semver::Version;
 use std::alloc::{AllocError, Global};
@@ -124,12 +123,6 @@ fn check_version(alloc: Global, told: &Registration) -> Result<(), GoalFault>
         return Ok(());
     }
     Err(GoalFault::Option(OptionFault::BadVersion(text.copy()?)))
-}
-
-fn is_provider_type(kind: &str) -> bool
-    ensures { result ≡ urn.is_provider_type kind.now }
-{
-    kind.starts_with("pulumi:providers:")
 }
 
 /// What provides has no provider itself.

@@ -6,8 +6,6 @@ mod goal;
 mod ignored;
 mod names;
 mod reading;
-#[cfg(test)]
-mod tests;
 mod vectors;
 
 pub use fault::GoalFault;

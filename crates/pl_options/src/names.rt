@@ -1,6 +1,7 @@
 ghost use Rattle.std.specs.Prelude.{◌≡◌, ◌++◌, encode_utf8_all, IfErr, IfOk, map, None, OnOk, string_bytes};
 ghost use Rattle.std.specs.Option.{option_copied};
 ghost use Rattle.std.specs.Str.{chars};
+ghost use Rattle.pl_state.specs.Kinds.{default_prefix};
 ghost use Rattle.pl_urn.specs.Grammar.{child_fault, IsScope};
 ghost use Rattle.pl_options.specs.Names as spec;
 ghost use Rattle.pl_options.specs.Refused.{IsUrnRefusal};
@@ -23,7 +24,7 @@ pub fn default_name(alloc: Global, version: Option<&str>) -> Result<Text, OutOfM
 
 /// `default_` and the version, with a `_` for each `.`, `-` and `+`.
 fn versioned_name(alloc: Global, version: &str) -> Result<Text, OutOfMemory>
-    ensures { IfOk result (λ name. name ≡ spec.default_prefix ++ map spec.name_byte version.now) }
+    ensures { IfOk result (λ name. name ≡ default_prefix ++ map spec.name_byte version.now) }
 {
     let letters = renamed(alloc, version)?;
     Ok(Text::from_string(format!(in alloc; "default_{letters}")?))

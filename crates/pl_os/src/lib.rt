@@ -9,8 +9,6 @@ mod counts;
 mod file_store;
 mod random_ids;
 mod standard_output;
-#[cfg(test)]
-mod tests;
 
 pub use child_pipe::{ChildPipe, own_pipe};
 pub use children::Children;

@@ -1,5 +1,4 @@
 pub mod AtSegment
-pub mod Depths
 pub mod Levels
 pub mod OnLiterals
 pub mod OnTheWay

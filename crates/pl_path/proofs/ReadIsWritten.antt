@@ -7,6 +7,7 @@ use Rattle.std.proofs.lemmas.Nat.{div-add-mod', div-mul-add}
 use Rattle.std.proofs.lemmas.List.Folds.{list_all-append}
 use Rattle.std.specs.Char.{is_ascii_digit}
 use Rattle.std.specs.Fmt.{decimal}
+use Rattle.pl_lemmas.proofs.Numbers.{equal_numbers}
 use Rattle.pl_path.specs.declared.segment.Segment.{Segment}
 use Rattle.pl_path.specs.declared.segment.Segment.TheVariants.{Key, Index}
 use Rattle.pl_path.specs.declared.reading.Place.{Place}
@@ -95,9 +96,6 @@ behind_more Before more text byte (before, is, whole) =
 
 -- ---- tests
 
-same_byte : (byte other : ℕ) → (byte == other) ≡ true → byte ≡ other
-same_byte byte other is = grind arith
-
 -- a choice that is there: the first by its test, or what follows
 chosen : (test : Bool) (first after : Reading) (rest : Option Reading) → cond test (Some first) rest ≡ Some after
     → ((test ≡ true) × (first ≡ after)) ⊎ ((test ≡ false) × (rest ≡ Some after))
@@ -132,7 +130,7 @@ begun segments index byte key text after before is =
     let found = last_chosen (is_name_byte byte) first after is in
     let here : IsRead first (text ++ byte ∷ []) =
     (elim (byte == star) as (λ b. (byte == star) ≡ b → WasRead (cond b Star Name) segments (byte ∷ []) index (text ++ byte ∷ [])) [
-      | true ↦ λ e. let same : byte ≡ star = same_byte byte star e in
+      | true ↦ λ e. let same : byte ≡ star = equal_numbers byte star e in
           ((text, before, ap (λ one. text ++ one ∷ []) same), ap (λ one. one ∷ []) same)
       | false ↦ λ e. ((text, before, refl), name_begins byte found.0 e)
     ]) refl in
@@ -144,9 +142,9 @@ followed : (reading after : Reading) (byte : ℕ) (text : List ℕ) → IsWritte
     → IsRead after (text ++ byte ∷ [])
 followed reading after byte text written is =
     elim (chosen (byte == dot) (record reading { place = Dot }) after (cond (byte == opening) (Some (record reading { place = Open })) None) is) [
-      | inl h ↦ subst (λ reading. IsRead reading (text ++ byte ∷ [])) h.1 (text, written, ap (λ one. text ++ one ∷ []) (same_byte byte dot h.0))
+      | inl h ↦ subst (λ reading. IsRead reading (text ++ byte ∷ [])) h.1 (text, written, ap (λ one. text ++ one ∷ []) (equal_numbers byte dot h.0))
       | inr h ↦ let found = last_chosen (byte == opening) (record reading { place = Open }) after h.1 in
-          subst (λ reading. IsRead reading (text ++ byte ∷ [])) found.1 (text, inr written, ap (λ one. text ++ one ∷ []) (same_byte byte opening found.0))
+          subst (λ reading. IsRead reading (text ++ byte ∷ [])) found.1 (text, inr written, ap (λ one. text ++ one ∷ []) (equal_numbers byte opening found.0))
     ]
 
 -- the `]` of a segment in brackets
@@ -157,7 +155,7 @@ closed : (reading after : Reading) (segment : Segment) (byte : ℕ) (text inner 
 closed reading after segment byte text inner (before, is_before, whole) bracketed is =
     let found = last_chosen (byte == closing) (record reading { segments = reading.segments ++ segment ∷ []; place = Closed }) after is in
     let all : before ++ in_brackets inner ≡ text ++ byte ∷ [] =
-    sym ((λ i. whole i ++ same_byte byte closing found.0 i ∷ []) ∙ append_assoc before (opening ∷ inner) (closing ∷ [])) in
+    sym ((λ i. whole i ++ equal_numbers byte closing found.0 i ∷ []) ∙ append_assoc before (opening ∷ inner) (closing ∷ [])) in
     subst (λ reading. IsRead reading (text ++ byte ∷ [])) found.1
     (subst (IsWritten (reading.segments ++ segment ∷ [])) all
     (bracketed_more reading.segments before segment (in_brackets inner) is_before bracketed))
@@ -217,7 +215,7 @@ pub read_step : (place : Place) (reading after : Reading) (byte : ℕ) (text : L
 read_step Start reading after byte text at (none, nothing) is =
     elim (chosen (byte == opening) (record reading { place = Open }) after _ is) [
       | inl h ↦ subst (λ reading. IsRead reading (text ++ byte ∷ [])) h.1
-          (text, inl (none, nothing), ap (λ one. text ++ one ∷ []) (same_byte byte opening h.0))
+          (text, inl (none, nothing), ap (λ one. text ++ one ∷ []) (equal_numbers byte opening h.0))
       | inr h ↦ begun reading.segments reading.index byte reading.key text after (inl (none, nothing)) h.1
     ]
 read_step Dot reading after byte text at behind is =
@@ -238,10 +236,10 @@ read_step Name reading after byte text at (behind, name) is =
 read_step Open reading after byte text at behind is =
     elim (chosen (byte == quote) (record reading { key = []; place = Quoted }) after _ is) [
       | inl h ↦ subst (λ reading. IsRead reading (text ++ byte ∷ [])) h.1
-          (behind_other (IsBefore reading.segments) (opening ∷ []) (opening ∷ quote ∷ []) text byte (ap (λ one. opening ∷ one ∷ []) (same_byte byte quote h.0)) behind)
+          (behind_other (IsBefore reading.segments) (opening ∷ []) (opening ∷ quote ∷ []) text byte (ap (λ one. opening ∷ one ∷ []) (equal_numbers byte quote h.0)) behind)
       | inr h ↦ elim (chosen (byte == digit_zero) (record reading { index = 0; place = Zero }) after _ h.1) [
         | inl k ↦ subst (λ reading. IsRead reading (text ++ byte ∷ [])) k.1
-            (behind_other (IsBefore reading.segments) (opening ∷ []) (opening ∷ decimal 0) text byte (ap (λ one. opening ∷ one ∷ []) (same_byte byte digit_zero k.0) ∙ ap (λ xs. opening ∷ xs) (sym zero_digit)) behind)
+            (behind_other (IsBefore reading.segments) (opening ∷ []) (opening ∷ decimal 0) text byte (ap (λ one. opening ∷ one ∷ []) (equal_numbers byte digit_zero k.0) ∙ ap (λ xs. opening ∷ xs) (sym zero_digit)) behind)
         | inr k ↦
             let found = last_chosen (is_ascii_digit byte) (record reading { index = byte - digit_zero; place = Digits }) after k.1 in
             let digit : IsDigit byte = digit_is byte found.0 in
@@ -278,11 +276,11 @@ read_step Quoted reading after byte text at behind is =
     elim (chosen (byte == quote) (record reading { place = Unquoted }) after _ is) [
       | inl h ↦ subst (λ reading. IsRead reading (text ++ byte ∷ [])) h.1
           (behind_other (IsBefore reading.segments) (opening ∷ quote ∷ escaped reading.key) (opening ∷ quote ∷ (escaped reading.key ++ quote ∷ [])) text byte
-          (ap (λ one. opening ∷ quote ∷ (escaped reading.key ++ one ∷ [])) (same_byte byte quote h.0)) behind)
+          (ap (λ one. opening ∷ quote ∷ (escaped reading.key ++ one ∷ [])) (equal_numbers byte quote h.0)) behind)
       | inr h ↦ elim (chosen (byte == backslash) (record reading { place = Escaped }) after _ h.1) [
         | inl k ↦ subst (λ reading. IsRead reading (text ++ byte ∷ [])) k.1
             (behind_other (IsBefore reading.segments) (opening ∷ quote ∷ escaped reading.key) (opening ∷ quote ∷ (escaped reading.key ++ backslash ∷ [])) text byte
-            (ap (λ one. opening ∷ quote ∷ (escaped reading.key ++ one ∷ [])) (same_byte byte backslash k.0)) behind)
+            (ap (λ one. opening ∷ quote ∷ (escaped reading.key ++ one ∷ [])) (equal_numbers byte backslash k.0)) behind)
         | inr k ↦
             let plain : is_escaped byte ≡ false = rw h.0 k.0 in
             let same : record reading { key = reading.key ++ byte ∷ []; place = Quoted } ≡ after = cc in

@@ -2,10 +2,10 @@
 use Rattle.std.proofs.Common.{◌≡◌, ◌≢◌, ℕ, zero, suc, ◌+◌, Bool, true, false, not, cond, List, [], ◌∷◌, ◌++◌, drop, take, find, bytes_eq, option_map, Option, None, Some, slice_get, Less, Equal, Greater, is_eq, refl, sym, ap, ◌∙◌, arith}
 use Rattle.std.proofs.lemmas.Bool.{and_parts}
 use Rattle.std.proofs.lemmas.Map.Text.{is_eq-slice_cmp}
-use Rattle.std.proofs.lemmas.Slice.Eq.{bytes_eq-Decides}
 use Rattle.std.specs.Cmp.Lexicographic.{slice_cmp}
 use Rattle.std.specs.List.{filter, list_all}
 use Rattle.std.specs.Ordering.{nat_cmp}
+use Rattle.pl_lemmas.proofs.Lists.{same_bytes, bytes_same}
 use Rattle.pl_value.specs.Keys as keys
 use Rattle.pl_value.specs.Keys.{are_rising, is_below, is_less, keys_of}
 use Rattle.pl_value.specs.declared.value.Value.{Value}
@@ -14,12 +14,6 @@ use Rattle.pl_value.proofs.Rising.{apart, reversed}
 use Rattle.pl_path.specs.Reset.{field_put, fields_above, fields_below, with_changed_element, with_changed_field, with_put}
 
 -- ---- keys
-
-same_bytes : (key other : List ℕ) → bytes_eq key other ≡ true → key ≡ other
-same_bytes key other is = (bytes_eq-Decides key other).0 is
-
-itself_same : (key : List ℕ) → bytes_eq key key ≡ true
-itself_same key = (bytes_eq-Decides key key).1 refl
 
 other_bytes : (key other : List ℕ) → key ≢ other → bytes_eq key other ≡ false
 other_bytes key other apart =
@@ -31,7 +25,7 @@ other_bytes key other apart =
 not_below_itself : (key : List ℕ) → is_below key key ≡ false
 not_below_itself key =
     (elim (is_below key key) as (λ b. is_below key key ≡ b → b ≡ false) [
-      | true ↦ λ e. let no : bytes_eq key key ≡ false = apart key key e in let yes : bytes_eq key key ≡ true = itself_same key in cc
+      | true ↦ λ e. let no : bytes_eq key key ≡ false = apart key key e in let yes : bytes_eq key key ≡ true = bytes_same key in cc
       | false ↦ λ e. refl
     ]) refl
 
@@ -101,7 +95,7 @@ filter_drops keeps key (field ∷ fields) is =
 put_there : (key : List ℕ) (old : Option Value) (above : Pairs) → keys.value_at key above ≡ None → keys.value_at key (field_put key old ++ above) ≡ old
 put_there key None above none = none
 put_there key (Some put) above none =
-    ap (λ b. option_map (λ (pair : List ℕ × Value). pair.1) (cond b (Some (key, put)) (find (λ pair. bytes_eq pair.0 key) above))) (itself_same key)
+    ap (λ b. option_map (λ (pair : List ℕ × Value). pair.1) (cond b (Some (key, put)) (find (λ pair. bytes_eq pair.0 key) above))) (bytes_same key)
 
 pub put_is_found : (key : List ℕ) (old : Option Value) (fields : Pairs) → keys.value_at key (with_put key old fields) ≡ old
 put_is_found key old fields =

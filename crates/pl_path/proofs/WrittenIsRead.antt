@@ -117,9 +117,6 @@ quoted_on segments key index (byte ∷ more) =
           ∙ rest
     ]) refl
 
-digits_place : ℕ → Place
-digits_place index = cond (index == 0) Zero Digits
-
 abbrev AreDigits : List Segment → List ℕ → ℕ → ℕ → List ℕ → Type 0
 AreDigits segments key index number digits =
     number ≤ greatest_index → steps (standing Open segments key index) digits ≡ Some (standing (cond (number == 0) Zero Digits) segments key number)

@@ -8,8 +8,6 @@ mod parsing;
 mod reading;
 mod reset;
 mod segment;
-#[cfg(test)]
-mod tests;
 mod vectors;
 
 pub use fault::PathFault;

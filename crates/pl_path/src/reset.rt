@@ -6,13 +6,10 @@ ghost use Rattle.pl_path.specs.Reset as spec;
 
 use crate::found::{elements_of, field_under, fields_of};
 use crate::segment::{Path, Segment};
-use pl_value::{Fields, OutOfMemory, Text, Value};
+use pl_value::{Fields, MOST_LEVELS, OutOfMemory, Text, Value};
 use sqlite_items::{Boxed, Items};
 use std::alloc::Global;
 use std::cmp::Ordering;
-
-/// A value of a field may be as deep as this.
-const DEEPEST: u64 = 64;
 
 /// Sets the fields back to the old ones at the path: the old value is put there, and where there is none, a key is
 /// taken out and an element stays. Nothing changes where the fields have no place for it, or where a value
@@ -65,7 +62,7 @@ fn are_too_deep(fields: &[(Text, Value)]) -> bool
 fn is_too_deep(value: &Value) -> bool
     ensures { result ≡ spec.is_too_deep value.now }
 {
-    value.depth() > DEEPEST
+    value.depth() > MOST_LEVELS
 }
 
 /// The value set back at the segments, where `old` stands in its place in the old fields.

@@ -1,12 +1,11 @@
 -- What the calls of std's text functions give, in the words of provider references.
-use Rattle.std.proofs.Common.{◌≡◌, ◌<◌, ◌≤◌, ℕ, zero, suc, Bool, true, false, not, List, [], ◌∷◌, ◌++◌, length, take, drop, sym, ap, ◌∙◌, arith, eqb, Some, None, is_none, MatchBool}
+use Rattle.std.proofs.Common.{◌≡◌, ◌<◌, ◌≤◌, ℕ, zero, suc, Bool, true, false, not, List, [], ◌∷◌, ◌++◌, length, take, drop, sym, ap, ◌∙◌, arith, eqb, Some, None, is_none}
 use Rattle.std.proofs.lemmas.Bool.{and_from, and_left, and_right, cond-true, cond-false, or_right}
-use Rattle.std.proofs.lemmas.Str.Pattern.{starts_text}
 use Rattle.std.specs.List.{starts_with}
-use Rattle.std.specs.Str.Pattern.{FindsTextPrefix, HasPrefixMatch, LacksTextAt, RFindsText, SplitsAroundMatch}
+use Rattle.std.specs.Str.Pattern.{LacksTextAt, RFindsText, SplitsAroundMatch}
 use Rattle.pl_urn.specs.Cut.{begins_with_cut, cut, has_cut, rest_of}
 use Rattle.pl_urn.specs.declared.fault.UrnFault.{UrnFault}
-use Rattle.pl_urn.specs.Grammar.{is_empty, own_type_of, provider_prefix, told_fault, urn_fault}
+use Rattle.pl_urn.specs.Grammar.{is_empty, is_provider_type, own_type_of, provider_prefix, told_fault, urn_fault}
 use Rattle.pl_urn.proofs.Cuts.{cut_missing}
 use Rattle.pl_reference.specs.Reference.{after_last_cut, before_last_cut, is_provider_urn, is_reference, reference_in}
 
@@ -74,15 +73,15 @@ reference_read text front back h full provider =
     cond-true _ _ _ tests ∙ ap (λ (l : List ℕ). Some (l, after_last_cut text)) h.before ∙ ap (λ (l : List ℕ). Some (front, l)) h.after
 
 -- the tests of a provider's URN
-pub provider_yes : (text own : List ℕ) (r : Bool) → own ≡ own_type_of text → urn_fault text ≡ None → r ≡ true → MatchBool r (HasPrefixMatch (FindsTextPrefix provider_prefix) own) (FindsTextPrefix provider_prefix own None) → is_provider_urn text ≡ true
+pub provider_yes : (text own : List ℕ) (r : Bool) → own ≡ own_type_of text → urn_fault text ≡ None → r ≡ true → r ≡ is_provider_type own → is_provider_urn text ≡ true
 unfolding is_provider_urn
 provider_yes text own r is urn passes h =
-    and_from _ _ (ap is_none urn) (ap (λ (l : List ℕ). starts_with eqb l provider_prefix) (sym is) ∙ sym (starts_text r provider_prefix own h) ∙ passes)
+    and_from _ _ (ap is_none urn) (ap (λ (l : List ℕ). starts_with eqb l provider_prefix) (sym is) ∙ sym h ∙ passes)
 
-pub provider_no : (text own : List ℕ) (r : Bool) → own ≡ own_type_of text → r ≡ false → MatchBool r (HasPrefixMatch (FindsTextPrefix provider_prefix) own) (FindsTextPrefix provider_prefix own None) → is_provider_urn text ≡ false
+pub provider_no : (text own : List ℕ) (r : Bool) → own ≡ own_type_of text → r ≡ false → r ≡ is_provider_type own → is_provider_urn text ≡ false
 unfolding is_provider_urn
 provider_no text own r is fails h =
-    and_right _ _ (ap (λ (l : List ℕ). starts_with eqb l provider_prefix) (sym is) ∙ sym (starts_text r provider_prefix own h) ∙ fails)
+    and_right _ _ (ap (λ (l : List ℕ). starts_with eqb l provider_prefix) (sym is) ∙ sym h ∙ fails)
 
 pub provider_fault : (text : List ℕ) (fault : UrnFault) → urn_fault text ≡ told_fault fault → is_none (told_fault fault) ≡ false → is_provider_urn text ≡ false
 unfolding is_provider_urn

@@ -4,8 +4,6 @@
 mod copies;
 mod keyed;
 mod reference;
-#[cfg(test)]
-mod tests;
 mod urns;
 mod words;
 

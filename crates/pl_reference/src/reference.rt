@@ -2,7 +2,7 @@ ghost use Rattle.std.specs.Prelude.{◌≡◌, false, IfOk, is_none, IsErrOf, No
 ghost use Rattle.pl_urn.specs.Grammar.{told_fault};
 ghost use Rattle.pl_reference.specs.Reference.{is_provider_urn, reference_in};
 
-use pl_urn::{Urn, UrnFault};
+use pl_urn::{Urn, UrnFault, is_provider_type};
 use pl_value::{OutOfMemory, Text};
 use std::alloc::Global;
 use thiserror::Error;
@@ -70,7 +70,7 @@ fn provider_urn(alloc: Global, text: &str) -> Result<Urn, RefFault>
 {
     match pl_urn::parse(alloc, text) {
         Ok(urn) => {
-            if urn.own_type().starts_with("pulumi:providers:") {
+            if is_provider_type(urn.own_type()) {
                 Ok(urn)
             } else {
                 Err(RefFault::NotAReference)

@@ -1,13 +1,14 @@
 -- The lanes by their numbers and the lanes in order say the same.
-use Rattle.std.proofs.Common.{◌≡◌, ℕ, suc, ◌+◌, Bool, true, false, cond, not, ◌&&◌, Option, Some, option_map, List, [], ◌∷◌, length, filter, find, refl, sym, ap, ◌∙◌, arith}
+use Rattle.std.proofs.Common.{◌≡◌, ℕ, suc, ◌+◌, Bool, cond, not, ◌&&◌, Option, Some, option_map, List, [], ◌∷◌, length, filter, find, refl, sym, ap, ◌∙◌, arith}
 use Rattle.std.specs.Prelude.{count_by, position, slice_get}
 use Rattle.std.specs.List.{position_from, range_with_len}
 use Rattle.std.proofs.lemmas.Iterator.Adapters.{position_from-zero}
 use Rattle.std.proofs.lemmas.List.Sums.{sum_by-cons}
+use Rattle.pl_lemmas.proofs.Numbers.{found_next, counted_next}
 use Rattle.pl_events.specs.declared.operation.Source.{Source}
 use Rattle.pl_registry.specs.declared.lane.Lane.{Lane}
 use Rattle.pl_registry.specs.Lanes.{can_work, is_free_from, is_from, is_source, lane_free, lanes_from}
-use Rattle.pl_state.specs.Chain.{some_passes}
+use Rattle.pl_lemmas.specs.Words.{some_passes}
 
 -- a function gives the lanes from a number on
 abbrev GivesFrom : (ℕ → Option Lane) → ℕ → List Lane → Type 0
@@ -28,12 +29,6 @@ is_free_at lane_at lane =
     && not (some_passes (λ one. one.out) (lane_at lane))
     && not (some_passes (λ one. one.lost) (lane_at lane))
 
-found_next : (from free : Bool) (start : ℕ) (test : ℕ → Bool) (later : List ℕ) (last : Option ℕ) → test start ≡ free → find test later ≡ last → find test (cond from (start ∷ later) later) ≡ cond (from && free) (Some start) last
-found_next true true start test later last e f = rw e refl
-found_next true false start test later last e f = rw e f
-found_next false true start test later last e f = f
-found_next false false start test later last e f = f
-
 free_from : (lane_at : ℕ → Option Lane) (wanted : Source) (start : ℕ) (lanes : List Lane) → GivesFrom lane_at start lanes → find (is_free_at lane_at) (filter (is_at lane_at wanted) (range_with_len start (length lanes))) ≡ position_from (is_free_from wanted) start lanes
 free_from lane_at wanted start [] h = refl
 free_from lane_at wanted start (lane ∷ lanes) h =
@@ -50,10 +45,6 @@ pub lane_free_at : (lanes : List Lane) (wanted : Source) → position (is_free_f
 lane_free_at lanes wanted =
     position_from-zero (is_free_from wanted) lanes
     ∙ sym (free_from (λ lane. slice_get lanes lane) wanted 0 lanes (λ k. ap (slice_get lanes) (omega arith)))
-
-counted_next : (from : Bool) (start : ℕ) (later : List ℕ) (count : ℕ) → length later ≡ count → length (cond from (start ∷ later) later) ≡ cond from 1 0 + count
-counted_next true start later count e = omega arith
-counted_next false start later count e = omega arith
 
 count_at : (lane_at : ℕ → Option Lane) (wanted : Source) (start : ℕ) (lanes : List Lane) → GivesFrom lane_at start lanes → length (filter (is_at lane_at wanted) (range_with_len start (length lanes))) ≡ count_by (is_from wanted) lanes
 count_at lane_at wanted start [] h = refl

@@ -5,7 +5,7 @@ use Rattle.pl_events.specs.Lanes.{LanesTold}
 use Rattle.pl_events.specs.declared.operation.Source.{Source}
 use Rattle.pl_events.specs.declared.operation.Source.TheVariants as source
 use Rattle.pl_registry.specs.declared.lane.Lane.{Lane}
-use Rattle.pl_state.specs.Chain.{some_passes}
+use Rattle.pl_lemmas.specs.Words.{some_passes}
 
 -- a table: its lanes in order of their start, whether the host's writing half is at home, how many lanes a source may
 -- have, and the packages with the words that start their providers

@@ -3,8 +3,6 @@
 
 mod lane;
 mod table;
-#[cfg(test)]
-mod tests;
 mod words;
 
 pub use pl_events::{LaneView, Source};

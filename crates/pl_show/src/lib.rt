@@ -4,8 +4,6 @@
 mod printing;
 mod state_lines;
 mod stop_line;
-#[cfg(test)]
-mod tests;
 
 pub use printing::print;
 pub use state_lines::{resource_lines, sound_line};

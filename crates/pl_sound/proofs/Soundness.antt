@@ -1,10 +1,11 @@
 -- What the wants of a row say of the rows of a state.
 use Rattle.std.proofs.Common.{◌≡◌, ◌<◌, ◌≤◌, ◌&&◌, ℕ, Bool, true, false, not, cond, List, [], ◌∷◌, ◌++◌, length, take, map, refl, sym, ap, ◌∙◌, Option, Some, None, is_none, inl, inr, get_or, ◌+◌, below_more}
-use Rattle.std.proofs.lemmas.Bool.{cases_lt, false≢true}
+use Rattle.std.proofs.lemmas.Bool.{cases_lt}
 use Rattle.std.proofs.lemmas.List.Folds.{list_all-append, list_all-map}
 use Rattle.std.proofs.lemmas.Option.{slice_get_past, slice_get_read}
 use Rattle.std.specs.List.{find, flat_map, list_all, list_any, slice_get}
 use Rattle.std.specs.Option.{option_and_then}
+use Rattle.pl_lemmas.proofs.Options.{none_is, some_not_none}
 use Rattle.pl_state.specs.declared.entry.Entry.{Entry}
 use Rattle.pl_state.specs.declared.fault.Missing.{Missing}
 use Rattle.pl_state.specs.declared.fault.Missing.TheVariants.{Parent, Provider, Dependency, DeletedWith}
@@ -70,14 +71,6 @@ is_none-first_unmet : (before : List Entry) (row : Entry) → is_none (first_unm
 unfolding first_unmet
 is_none-first_unmet before row = sym (list_all-find (is_met before) (wants row))
 
-none_from_test : {X : Type 0} (o : Option X) → is_none o ≡ true → o ≡ None
-none_from_test None h = refl
-none_from_test (Some x) h = absurd (false≢true h)
-
-some_from_test : {X : Type 0} (o : Option X) → is_none o ≡ false → (x : X) × (o ≡ Some x)
-some_from_test None h = absurd (false≢true (sym h))
-some_from_test (Some x) h = (x, refl)
-
 pub fault_at-row : (rows : List Entry) (at : ℕ) (row : Entry) → slice_get rows at ≡ Some row → fault_at rows at ≡ first_unmet (is_met (take at rows)) row
 unfolding fault_at
 fault_at-row rows at row h = ap (option_and_then (λ r. first_unmet (is_met (take at rows)) r)) h
@@ -89,12 +82,12 @@ fault_at-past rows at h = ap (option_and_then (λ r. first_unmet (is_met (take a
 -- a row that finds all has no fault
 pub fault_at-none : (rows : List Entry) (at : ℕ) (row : Entry) → slice_get rows at ≡ Some row → finds_all (take at rows) row ≡ true → fault_at rows at ≡ None
 fault_at-none rows at row h all =
-    fault_at-row rows at row h ∙ none_from_test _ (is_none-first_unmet (take at rows) row ∙ all)
+    fault_at-row rows at row h ∙ none_is _ (is_none-first_unmet (take at rows) row ∙ all)
 
 -- a row that does not has one
 pub fault_at-some : (rows : List Entry) (at : ℕ) (row : Entry) → slice_get rows at ≡ Some row → finds_all (take at rows) row ≡ false → (missing : Missing) × (fault_at rows at ≡ Some missing)
 fault_at-some rows at row h lacks =
-    let found = some_from_test (first_unmet (is_met (take at rows)) row) (is_none-first_unmet (take at rows) row ∙ lacks) in
+    let found = some_not_none (first_unmet (is_met (take at rows)) row) (is_none-first_unmet (take at rows) row ∙ lacks) in
     (found.0, fault_at-row rows at row h ∙ found.1)
 
 -- rows without a fault below their number are sound

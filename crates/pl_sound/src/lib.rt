@@ -3,8 +3,6 @@
 
 mod seen;
 mod sound;
-#[cfg(test)]
-mod tests;
 
 pub use pl_state;
 pub use seen::Seen;

@@ -1,14 +1,10 @@
 -- Which rows refer to a row, directly or through others, and which row is that of a row's provider.
 use Rattle.std.specs.Prelude.{ℕ, zero, suc, Bool, false, not, ◌&&◌, ◌||◌, if◌then◌else◌, find, length, nat_lt, option_and_then, option_map, slice_get, take, Option, None, Some, List, [], ◌∷◌, ◌++◌}
 use Rattle.std.specs.List.{filter_map, list_any}
+use Rattle.pl_lemmas.specs.Words.{some_passes}
 use Rattle.pl_state.specs.declared.entry.Entry.{Entry}
 use Rattle.pl_reference.specs.declared.reference.ProviderRef.{ProviderRef}
 use Rattle.pl_state.specs.References.{has_urn, is_provider, names_row}
-
--- whether something is there and passes the test
-abbrev pub some_passes : {X : Type 0} → (X → Bool) → Option X → Bool
-some_passes test None = false
-some_passes test (Some x) = test x
 
 -- whether the row at the first place refers to the one at the second, which has to stand before it
 abbrev pub refers_to : List Entry → ℕ → ℕ → Bool

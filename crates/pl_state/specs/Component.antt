@@ -1,5 +1,6 @@
 -- What a component has that was registered without an option.
 use Rattle.std.specs.Prelude.{ℕ, Bool, true, false, not, ◌&&◌, Option, None, is_none, List, [], ◌∷◌, codes}
+use Rattle.pl_lemmas.specs.Words.{has_none}
 use Rattle.pl_state.specs.declared.entry.Entry.{Entry}
 use Rattle.pl_state.specs.declared.goal.Goal.{Goal}
 use Rattle.pl_state.specs.declared.goal.Registration.{Registration}
@@ -92,11 +93,6 @@ plain_goal urn kind parent = record {
   version = None;
   read_id = None;
 }
-
--- whether nothing is in a list
-abbrev pub has_none : {X : Type 0} → List X → Bool
-has_none [] = true
-has_none (_ ∷ _) = false
 
 -- whether the options that say what is done with the thing are left out
 abbrev pub has_no_flags : Registration → Bool

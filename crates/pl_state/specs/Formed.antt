@@ -4,8 +4,12 @@ use Rattle.pl_value.specs.Depth.{most_levels}
 use Rattle.pl_value.specs.Inside.{greatest_field_depth}
 use Rattle.pl_value.specs.Keys.{are_rising, keys_of}
 use Rattle.pl_value.specs.declared.value.Value.{Value}
-use Rattle.pl_state.specs.Component.{has_none}
+use Rattle.pl_lemmas.specs.Words.{has_none}
 use Rattle.pl_state.specs.declared.entry.Entry.{Entry}
+
+-- the most resources that a state may hold
+abbrev pub most_resources : ℕ
+most_resources = 10000
 
 -- whether each value of an object is no deeper than a value may be
 abbrev pub are_shallow : List (List ℕ × Value) → Bool

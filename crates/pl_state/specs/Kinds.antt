@@ -10,9 +10,17 @@ use Rattle.pl_state.specs.declared.goal.Goal.{Goal}
 abbrev pub is_of_provider : List ℕ → Bool
 is_of_provider urn = is_provider_type (own_type_of urn)
 
+-- the name of a default provider without a version
+abbrev pub default_text : List ℕ
+default_text = codes "default"
+
+-- what such a name begins with where there is a version
+abbrev pub default_prefix : List ℕ
+default_prefix = codes "default_"
+
 -- whether a name is that of a default provider
 abbrev pub is_default_name : List ℕ → Bool
-is_default_name name = bytes_eq name (codes "default") || starts_with (λ a b. a == b) name (codes "default_")
+is_default_name name = bytes_eq name default_text || starts_with (λ a b. a == b) name default_prefix
 
 -- whether a URN is that of a default provider
 abbrev pub is_of_default : List ℕ → Bool

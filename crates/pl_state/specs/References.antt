@@ -2,6 +2,7 @@
 use Rattle.std.specs.Prelude.{ℕ, Bool, false, not, ◌&&◌, map, Option, None, Some, List, [], ◌∷◌, ◌++◌}
 use Rattle.std.specs.List.{flat_map, list_all, list_any}
 use Rattle.std.specs.Str.{bytes_eq}
+use Rattle.pl_lemmas.specs.Words.{option_list}
 use Rattle.pl_state.specs.declared.entry.Entry.{Entry}
 use Rattle.pl_state.specs.declared.fault.Missing.{Missing}
 use Rattle.pl_state.specs.declared.fault.Missing.TheVariants.{Twice, Parent, Provider, Dependency, DeletedWith}
@@ -28,11 +29,6 @@ is_provider reference row = has_urn reference.urn row && is_id row.id reference.
 -- the URNs that the values of the properties depend on, those of each in order
 abbrev pub property_urns : List (List ℕ × List (List ℕ)) → List (List ℕ)
 property_urns pairs = flat_map (λ pair. pair.1) pairs
-
--- what may be missing, as a list
-abbrev pub option_list : {X : Type 0} → Option X → List X
-option_list None = []
-option_list (Some x) = x ∷ []
 
 -- the reference of a field that may be missing
 abbrev pub optional_refs : {X : Type 0} → (X → Missing) → Option X → List Missing

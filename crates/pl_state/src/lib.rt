@@ -16,4 +16,4 @@ pub use pending::{Pending, PendingKind, Pendings};
 pub use pl_reference::{
     Imports, KeyedTexts, KeyedUrns, ProviderRef, ProviderWords, RefFault, Urns, read_ref,
 };
-pub use snapshot::Snapshot;
+pub use snapshot::{MOST_RESOURCES, Snapshot};

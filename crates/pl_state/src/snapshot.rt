@@ -6,6 +6,9 @@ use crate::pending::Pendings;
 use pl_value::{OutOfMemory, Text};
 use std::alloc::Global;
 
+/// The most resources that a state may hold.
+pub const MOST_RESOURCES: u64 = 10_000;
+
 /// The state of a stack: what the checkpoint holds.
 #[derive(Debug, Drop)]
 pub struct Snapshot {

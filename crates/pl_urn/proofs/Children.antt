@@ -77,12 +77,6 @@ IsMadeOf-below above stack project kind name h s p allowed =
       name_full = name_allowed.0;
     }
 
--- the type of a child is a qualified type
-pub IsQualified-child : (parent : Option (List ℕ)) (kind : List ℕ) → IfSome parent IsUrn → is_bad_type kind ≡ false → IsQualified (child_type parent kind)
-IsQualified-child None kind h allowed = IsQualified-below None kind tt (IsOwnType-from_test kind allowed)
-IsQualified-child (Some parent) kind h allowed =
-    IsQualified-below (type_above (qualified_type_of parent)) kind (IsQualified-above parent h) (IsOwnType-from_test kind allowed)
-
 -- a child's text is made of the parts that it is given
 pub IsMadeOf-child : (parent : Option (List ℕ)) (stack project kind name : List ℕ) → IfSome parent IsUrn → IsScope stack → IsScope project → child_fault kind name ≡ None → IsMadeOf (child_text parent stack project kind name) stack project (child_type parent kind) name
 IsMadeOf-child None stack project kind name h s p allowed = IsMadeOf-below None stack project kind name tt s p allowed

@@ -2,12 +2,11 @@
 use Rattle.std.proofs.Common.{◌≡◌, inl, inr, ℕ, Bool, true, false, List, [], ◌∷◌, ◌++◌, length, take, drop, refl, sym, ap, ◌∙◌, eqb, Option, Some, None, cond}
 use Rattle.std.proofs.lemmas.Bool.{cond-true, cond-false, or_from, or_parts, cases_Bool}
 use Rattle.std.proofs.lemmas.List.{take-append-drop}
-use Rattle.std.proofs.lemmas.Slice.Eq.{bytes_eq-Decides}
 use Rattle.std.proofs.lemmas.List.Folds.{list_any-append}
 use Rattle.std.proofs.lemmas.List.Splits.{slice_split-cons_yes, slice_split-cons_no}
 use Rattle.std.specs.List.{list_any, starts_with, slice_split, onto_first}
-use Rattle.std.specs.Str.{bytes_eq}
 use Rattle.std.specs.Str.Pattern.{FindsText, FindsTextPrefix, SplitsAroundMatch, StripsPrefix}
+use Rattle.pl_lemmas.proofs.Lists.{same_bytes}
 use Rattle.pl_urn.specs.Cut.{cut, has_cut, before_cut, after_cut, IsWhole}
 use Rattle.pl_urn.specs.Grammar.{is_empty, is_dollar, urn_prefix, parts_of, stack_of, project_of, qualified_type_of, name_of, has_empty_piece, empty_part, urn_fault, IsUrn, text_of}
 use Rattle.pl_urn.specs.declared.fault.UrnFault.{UrnFault}
@@ -72,9 +71,6 @@ onto_first-append x (b ∷ xs) more =
       | inr goes ↦ rw (slice_split-cons_no is_dollar b xs goes) (onto_two x b (slice_split is_dollar xs) more)
     ]
 
-same_from_Decides : (xs ys : List ℕ) → bytes_eq xs ys ≡ true → xs ≡ ys
-same_from_Decides xs ys h = (bytes_eq-Decides xs ys).0 h
-
 -- the pieces of two texts with a `$` between them
 slice_split-append : (xs ys : List ℕ) → slice_split is_dollar (xs ++ (36 ∷ ys)) ≡ slice_split is_dollar xs ++ slice_split is_dollar ys
 slice_split-append [] ys = refl
@@ -108,7 +104,7 @@ has_empty_piece-below above kind h k =
 prefix_rest : (text : List ℕ) → starts_with eqb text urn_prefix ≡ true → text ≡ urn_prefix ++ parts_of text
 unfolding parts_of
 prefix_rest text h =
-    let front : urn_prefix ≡ take (length urn_prefix) text = same_from_Decides _ _ h in
+    let front : urn_prefix ≡ take (length urn_prefix) text = same_bytes _ _ h in
     rw (cond-true _ (drop (length urn_prefix) text) [] h) (sym (take-append-drop (length urn_prefix) text) ∙ ap (λ (l : List ℕ). l ++ drop (length urn_prefix) text) (sym front))
 
 -- what a URN's text is made of
@@ -187,12 +183,3 @@ IsUrn-from_IsMadeOf text stack project kind name h =
     rw h.text_is
     (urn_fault-read _ stack project kind name (IsRead-text_of stack project kind name h.stack_whole h.project_whole h.kind_whole)
     ∙ cond-false _ _ _ h.stack_full ∙ cond-false _ _ _ h.project_full ∙ cond-false _ _ _ h.kind_full ∙ cond-false _ _ _ h.name_full)
-
--- two URNs with the same parts are the same
-pub IsUrn-same : (a b : List ℕ) → IsUrn a → IsUrn b → stack_of a ≡ stack_of b → project_of a ≡ project_of b → qualified_type_of a ≡ qualified_type_of b → name_of a ≡ name_of b → a ≡ b
-IsUrn-same a b h k s p q n =
-    (IsMadeOf-from_IsUrn a h).text_is ∙ ap (λ (l : List ℕ). text_of l (project_of a) (qualified_type_of a) (name_of a)) s
-    ∙ ap (λ (l : List ℕ). text_of (stack_of b) l (qualified_type_of a) (name_of a)) p
-    ∙ ap (λ (l : List ℕ). text_of (stack_of b) (project_of b) l (name_of a)) q
-    ∙ ap (λ (l : List ℕ). text_of (stack_of b) (project_of b) (qualified_type_of b) l) n
-    ∙ sym (IsMadeOf-from_IsUrn b k).text_is

@@ -2,10 +2,13 @@ ghost use Rattle.std.specs.Prelude.{◌≡◌, IfErr, IfOk, None, OnOk, string_b
 ghost use Rattle.std.specs.List.{after_last};
 ghost use Rattle.std.specs.Option.{option_copied};
 ghost use Rattle.pl_urn.specs.Cut.{after_cut, before_cut};
-ghost use Rattle.pl_urn.specs.Grammar.{child_fault, empty_part, has_empty_piece, is_bad_type, is_dollar, parts_of, qualified_type_of, text_of, told_fault, type_above, type_below, type_package, urn_fault};
+ghost use Rattle.pl_urn.specs.Grammar.{child_fault, empty_part, has_empty_piece, is_bad_type, is_dollar, is_provider_type, parts_of, qualified_type_of, text_of, told_fault, type_above, type_below, type_package, urn_fault};
 
 use crate::fault::UrnFault;
 use std::alloc::{AllocError, Global};
+
+/// What stands before the package in a provider's type.
+const PROVIDER_PREFIX: &str = "pulumi:providers:";
 
 /// The text before the first `::` and the text after it; all and nothing where there is none.
 pub fn cut(text: &str) -> (&str, &str)
@@ -28,10 +31,17 @@ pub fn last_piece(kind: &str) -> &str
     }
 }
 
+/// Whether a type is that of a provider.
+pub fn is_provider_type(kind: &str) -> bool
+    ensures { result ≡ is_provider_type kind.now }
+{
+    kind.starts_with(PROVIDER_PREFIX)
+}
+
 pub fn package_of_type(kind: &str) -> &str
     ensures { result.now ≡ type_package kind.now }
 {
-    if let Some(package) = kind.strip_prefix("pulumi:providers:") {
+    if let Some(package) = kind.strip_prefix(PROVIDER_PREFIX) {
         return package;
     }
     match kind.split_once(':') {

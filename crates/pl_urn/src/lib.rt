@@ -3,9 +3,8 @@
 
 mod fault;
 mod grammar;
-#[cfg(test)]
-mod tests;
 mod urn;
 
 pub use fault::UrnFault;
+pub use grammar::is_provider_type;
 pub use urn::{Urn, child, is_scope, parse};

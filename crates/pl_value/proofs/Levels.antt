@@ -1,8 +1,8 @@
 -- The equations of what is said of a value, one for each variant that is asked for.
-use Rattle.std.proofs.Common.{◌≡◌, ℕ, ℤ, true, ◌+◌, Bool, not, ◌&&◌, ◌||◌, bytes_eq, List, [], ◌∷◌, map, refl, sym, ap, ◌∙◌}
+use Rattle.std.proofs.Common.{◌≡◌, ℕ, ℤ, true, ◌+◌, Bool, not, ◌&&◌, bytes_eq, List, [], ◌∷◌, map, refl, sym, ap, ◌∙◌}
 use Rattle.std.proofs.lemmas.List.Folds.{list_all-map}
-use Rattle.std.specs.List.{list_any}
-use Rattle.pl_value.specs.Inside.{has_unknown, has_unknown_level, any_unknown, any_field_unknown, depth, depth_level, greatest, greatest_field_depth}
+use Rattle.pl_lemmas.proofs.Lists.{any_mapped}
+use Rattle.pl_value.specs.Inside.{has_unknown, has_unknown_level, any_unknown, any_field_unknown, depth, depth_level, greatest, greatest_depth, greatest_field_depth}
 use Rattle.pl_value.specs.IsValue.{is_value, is_value_level, are_values, are_fields, may_stand_under}
 use Rattle.pl_value.specs.Keys.{are_rising}
 use Rattle.pl_value.specs.Marks.{unknown_text, shown_secret}
@@ -12,10 +12,6 @@ use Rattle.pl_value.specs.declared.value.Value.TheOpen.{Value-F}
 use Rattle.pl_value.specs.declared.value.Value.TheVariants as value
 use Rattle.pl_value.specs.declared.value.Value.TheFolds.{fold-roll-Value, para-roll-Value}
 
-pub list_any-map : {X Y : Type 0} (p : Y → Bool) (h : X → Y) (xs : List X) → list_any p (map h xs) ≡ list_any (λ x. p (h x)) xs
-list_any-map p h [] = refl
-list_any-map p h (x ∷ xs) = ap (λ r. p (h x) || r) (list_any-map p h xs)
-
 pub map-map : {X Y Z : Type 0} (g : Y → Z) (h : X → Y) (xs : List X) → map g (map h xs) ≡ map (λ x. g (h x)) xs
 map-map g h [] = refl
 map-map g h (x ∷ xs) = ap (λ r. g (h x) ∷ r) (map-map g h xs)
@@ -23,17 +19,38 @@ map-map g h (x ∷ xs) = ap (λ r. g (h x) ∷ r) (map-map g h xs)
 pub has_unknown-List : (values : List Value) → has_unknown (value.List values) ≡ any_unknown values
 has_unknown-List values =
     ap has_unknown (sym (value.rolls-List values)) ∙ fold-roll-Value Bool has_unknown_level (Value-F.List values)
-    ∙ list_any-map (λ b. b) has_unknown values
+    ∙ any_mapped (λ b. b) has_unknown values
 
 pub has_unknown-Object : (fields : List (List ℕ × Value)) → has_unknown (value.Object fields) ≡ any_field_unknown fields
 has_unknown-Object fields =
     ap has_unknown (sym (value.rolls-Object fields)) ∙ fold-roll-Value Bool has_unknown_level (Value-F.Object fields)
-    ∙ list_any-map (λ (field : List ℕ × Bool). field.1) (λ field. (field.0, has_unknown field.1)) fields
+    ∙ any_mapped (λ (field : List ℕ × Bool). field.1) (λ field. (field.0, has_unknown field.1)) fields
+
+pub depth-Null : depth value.Null ≡ 0
+depth-Null = ap depth (sym value.rolls-Null) ∙ fold-roll-Value ℕ depth_level Value-F.Null
+
+pub depth-Flag : (flag : Bool) → depth (value.Flag flag) ≡ 0
+depth-Flag flag = ap depth (sym (value.rolls-Flag flag)) ∙ fold-roll-Value ℕ depth_level (Value-F.Flag flag)
+
+pub depth-Whole : (number : ℤ) → depth (value.Whole number) ≡ 0
+depth-Whole number = ap depth (sym (value.rolls-Whole number)) ∙ fold-roll-Value ℕ depth_level (Value-F.Whole number)
+
+pub depth-Unknown : depth value.Unknown ≡ 0
+depth-Unknown = ap depth (sym value.rolls-Unknown) ∙ fold-roll-Value ℕ depth_level Value-F.Unknown
+
+pub depth-Text : (text : List ℕ) → depth (value.Text text) ≡ 0
+depth-Text text = ap depth (sym (value.rolls-Text text)) ∙ fold-roll-Value ℕ depth_level (Value-F.Text text)
+
+pub depth-List : (values : List Value) → depth (value.List values) ≡ greatest_depth values + 1
+depth-List values = ap depth (sym (value.rolls-List values)) ∙ fold-roll-Value ℕ depth_level (Value-F.List values)
 
 pub depth-Object : (fields : List (List ℕ × Value)) → depth (value.Object fields) ≡ greatest_field_depth fields + 1
 depth-Object fields =
     ap depth (sym (value.rolls-Object fields)) ∙ fold-roll-Value ℕ depth_level (Value-F.Object fields)
     ∙ ap (λ (depths : List ℕ). greatest depths + 1) (map-map (λ (field : List ℕ × ℕ). field.1) (λ field. (field.0, depth field.1)) fields)
+
+pub depth-Secret : (inner : Value) → depth (value.Secret inner) ≡ depth inner + 1
+depth-Secret inner = ap depth (sym (value.rolls-Secret inner)) ∙ fold-roll-Value ℕ depth_level (Value-F.Secret inner)
 
 pub is_value-Null : is_value value.Null ≡ true
 is_value-Null = ap is_value (sym value.rolls-Null) ∙ para-roll-Value Bool is_value_level Value-F.Null

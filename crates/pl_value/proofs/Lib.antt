@@ -1,4 +1,5 @@
 pub mod FieldParts
+pub mod Kept
 pub mod Levels
 pub mod Lists
 pub mod Marked

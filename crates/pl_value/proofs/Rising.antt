@@ -1,6 +1,6 @@
 -- Rising keys, told by each key and the next.
 use Rattle.std.proofs.Common.{◌≡◌, ℕ, zero, suc, ◌+◌, ◌-◌, Some, ◌<◌, ◌≤◌, Bool, true, false, ◌&&◌, List, [], ◌∷◌, length, drop, get_or, bytes_eq, Ordering, Less, Equal, Greater, is_eq, refl, sym, ap, ◌∙◌, arith}
-use Rattle.std.proofs.lemmas.Bool.{and_parts, and_from, and_left, and_right}
+use Rattle.std.proofs.lemmas.Bool.{and_parts, and_from, and_right}
 use Rattle.std.proofs.lemmas.Cmp.{nat_list_cmp_total}
 use Rattle.std.proofs.lemmas.Map.Text.{is_eq-slice_cmp}
 use Rattle.std.specs.Cmp.Lexicographic.{slice_cmp}
@@ -9,13 +9,14 @@ use Rattle.std.specs.Ordering.{nat_cmp, ordering_reverse}
 use Rattle.pl_value.specs.Keys.{are_rising, is_below, is_less, keys_of, are_all_below}
 use Rattle.pl_value.specs.declared.value.Value.{Value}
 use Rattle.std.proofs.lemmas.List.Folds.{list_all-map}
+use Rattle.std.proofs.Math.Bool.{and-true}
 use Rattle.pl_value.proofs.FieldParts.{Pairs}
 use Rattle.pl_value.proofs.Lists.{list_all-slice_get}
 
 abbrev pub Key : Type 0
 Key = List ℕ
 
-less_from : (o : Ordering) → is_less o ≡ true → o ≡ Less
+pub less_from : (o : Ordering) → is_less o ≡ true → o ≡ Less
 less_from Less h = refl
 less_from Equal h = cc
 less_from Greater h = cc
@@ -50,25 +51,15 @@ rising_on (x ∷ (y ∷ more)) d e two below = by_case (list_all (is_below y.0) 
     by_case : (t : Bool) → list_all (is_below y.0) (keys_of more) ≡ t → are_rising (keys_of (y ∷ more)) ≡ are_rising (keys_of (x ∷ (y ∷ more)))
     by_case t all = rw all (sym (first_needless x.0 y.0 (keys_of more) t all below))
 
-pub not_rising : (left : Pairs) (d e : Key × Value) → 1 < length left → is_below (get_or left 0 d).0 (get_or left 1 e).0 ≡ false
-    → are_rising (keys_of left) ≡ false
-not_rising [] d e two below = absurd (omega arith)
-not_rising (x ∷ []) d e two below = absurd (omega arith)
-not_rising (x ∷ (y ∷ more)) d e two below = and_left _ _ (and_left _ _ below)
-
 pub short_rising : (left : Pairs) → length left ≤ 1 → are_rising (keys_of left) ≡ true
 short_rising [] short = refl
 short_rising (x ∷ []) short = refl
 short_rising (x ∷ (y ∷ more)) short = absurd (omega arith)
 
-and_true : (t : Bool) → (t && true) ≡ t
-and_true true = refl
-and_true false = refl
-
 all_below_at : (fields : Pairs) (key : Key) (last : Key × Value) (n : ℕ) → n + 1 ≡ length fields → slice_get fields n ≡ Some last
     → are_rising (keys_of fields) ≡ true → are_all_below fields key ≡ is_below last.0 key
 all_below_at [] key last n end at rising = cc
-all_below_at (x ∷ []) key last zero end at rising = let same : x ≡ last = cc in and_true (is_below x.0 key) ∙ ap (λ (f : Key × Value). is_below f.0 key) same
+all_below_at (x ∷ []) key last zero end at rising = let same : x ≡ last = cc in and-true (is_below x.0 key) ∙ ap (λ (f : Key × Value). is_below f.0 key) same
 all_below_at (x ∷ []) key last (suc n) end at rising = cc
 all_below_at (x ∷ (y ∷ more)) key last zero end at rising = absurd (omega arith)
 all_below_at (x ∷ (y ∷ more)) key last (suc n) end at rising =

@@ -1,6 +1,6 @@
 -- The test of values and of fields is true exactly for the same ones.
 use Rattle.std.proofs.Common.{◌≡◌, ℕ, Bool, true, ◌&&◌, bytes_eq, List, [], ◌∷◌, map, refl, sym, ap, ap₂, subst, ◌∙◌}
-use Rattle.std.proofs.lemmas.Bool.{and_parts}
+use Rattle.std.proofs.lemmas.Bool.{and_parts, and_from}
 use Rattle.std.proofs.lemmas.Bool.Decides.{Decides-int_eq}
 use Rattle.std.proofs.lemmas.Slice.Eq.{bytes_eq-Decides}
 use Rattle.std.specs.Cmp.{booleans_Decides}
@@ -9,9 +9,7 @@ use Rattle.pl_value.specs.Same.{all_pass, field_test, same_level, value_same, fi
 use Rattle.pl_value.specs.declared.value.Value.{Value, roll-Value, out-Value, roll-out-Value, out-roll-Value}
 use Rattle.pl_value.specs.declared.value.Value.TheOpen.{Value-F}
 use Rattle.pl_value.specs.declared.value.Value.TheFolds.{ind-Value, map-Value, fold-roll-Value}
-
-and_both : (x y : Bool) → x ≡ true → y ≡ true → (x && y) ≡ true
-and_both x y a b = ap₂ (λ p q. p && q) a b
+use Rattle.pl_value.proofs.Kept.{Having, opened, values_of, pairs_of}
 
 -- ---- what is decided of a value: whether each other one is the same
 
@@ -19,16 +17,7 @@ abbrev Decided : Value → Type 0
 Decided one = (other : Value) → Decides (value_same one other) (one ≡ other)
 
 abbrev Kept : Type 0
-Kept = (one : Value) × Decided one
-
-abbrev opened : Value-F Kept → Value-F Value
-opened y = map-Value Kept Value (λ e. e.0) y
-
-abbrev values_of : List Kept → List Value
-values_of kept = map (λ (e : Kept). e.0) kept
-
-abbrev pairs_of : List (List ℕ × Kept) → List (List ℕ × Value)
-pairs_of kept = map (λ field. (field.0, field.1.0)) kept
+Kept = Having Decided
 
 abbrev tests_of : List Value → List (Value → Bool)
 tests_of values = map value_same values
@@ -82,12 +71,12 @@ tell_level Value-F.Unknown y pass = cc
 
 pass_values : (kept : List Kept) → all_pass (tests_of (values_of kept)) (values_of kept) ≡ true
 pass_values [] = refl
-pass_values (one ∷ more) = and_both _ _ ((one.1 one.0).1 refl) (pass_values more)
+pass_values (one ∷ more) = and_from _ _ ((one.1 one.0).1 refl) (pass_values more)
 
 pass_pairs : (kept : List (List ℕ × Kept)) → all_pass (map field_test (test_pairs (pairs_of kept))) (pairs_of kept) ≡ true
 pass_pairs [] = refl
 pass_pairs (one ∷ more) =
-    and_both _ _ (and_both _ _ ((bytes_eq-Decides one.0 one.0).1 refl) ((one.1.1 one.1.0).1 refl)) (pass_pairs more)
+    and_from _ _ (and_from _ _ ((bytes_eq-Decides one.0 one.0).1 refl) ((one.1.1 one.1.0).1 refl)) (pass_pairs more)
 
 pass_level : (x : Value-F Kept) → same_level (tested (opened x)) (opened x) ≡ true
 pass_level Value-F.Null = refl
@@ -122,9 +111,6 @@ value_same-Decides one =
 
 -- ---- fields
 
-abbrev tests_of_fields : List (List ℕ × Value) → List (List ℕ × Value → Bool)
-tests_of_fields fields = map (λ field. field_test (field.0, value_same field.1)) fields
-
 tell_fields : (fields others : List (List ℕ × Value)) → fields_same fields others ≡ true → fields ≡ others
 tell_fields [] [] pass = refl
 tell_fields [] (other ∷ others) pass = cc
@@ -138,7 +124,7 @@ tell_fields (one ∷ more) (other ∷ others) pass =
 pass_fields : (fields : List (List ℕ × Value)) → fields_same fields fields ≡ true
 pass_fields [] = refl
 pass_fields (one ∷ more) =
-    and_both _ _ (and_both _ _ ((bytes_eq-Decides one.0 one.0).1 refl) ((value_same-Decides one.1 one.1).1 refl)) (pass_fields more)
+    and_from _ _ (and_from _ _ ((bytes_eq-Decides one.0 one.0).1 refl) ((value_same-Decides one.1 one.1).1 refl)) (pass_fields more)
 
 pub fields_same-Decides : (fields others : List (List ℕ × Value)) → Decides (fields_same fields others) (fields ≡ others)
 fields_same-Decides fields others =

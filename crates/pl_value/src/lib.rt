@@ -12,8 +12,6 @@ mod mask;
 mod same;
 mod secrets;
 mod sound;
-#[cfg(test)]
-mod tests;
 mod value;
 mod values;
 
@@ -25,5 +23,5 @@ pub use marks::{secret_key, secret_mark, shown_secret, unknown_text};
 pub use pl_text::{Bytes, OutOfMemory, Rows, Text, Texts, Words};
 pub use secrets::mark_secrets;
 pub use sound::{are_fields, are_values, may_stand_under};
-pub use value::Value;
+pub use value::{MOST_LEVELS, Value};
 pub use values::Values;

@@ -5,13 +5,10 @@ ghost use Rattle.pl_value.specs.Secrets as spec;
 use crate::copy::copy;
 use crate::fields::Fields;
 use crate::marks::secret_key;
-use crate::value::Value;
+use crate::value::{MOST_LEVELS, Value};
 use pl_text::{OutOfMemory, Text, Texts};
 use sqlite_items::{Boxed, Items};
 use std::alloc::Global;
-
-/// From this depth on a value is never wrapped: one level more could not be read back.
-const DEEPEST: u64 = 64;
 
 /// Wraps the values under these keys as secrets. After `OutOfMemory` the fields come back as they were.
 pub fn mark_secrets(
@@ -60,7 +57,7 @@ fn is_to_mark(field: &(Text, Value), keys: &[Text]) -> bool
     is_named(keys, key)
         && !is_secret(value)
         && key.as_str() != secret_key()
-        && value.depth() < DEEPEST
+        && value.depth() < MOST_LEVELS
 }
 
 fn is_named(keys: &[Text], key: &Text) -> bool

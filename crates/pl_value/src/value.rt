@@ -14,6 +14,9 @@ use pl_text::{OutOfMemory, Text};
 use sqlite_items::{Boxed, Items};
 use std::alloc::Global;
 
+/// The most lists, objects and secrets that may stand in each other in a value.
+pub const MOST_LEVELS: u64 = 64;
+
 /// A property's value. The pairs of an object stand by their keys, rising by bytes.
 #[derive(Debug, Drop)]
 pub enum Value {

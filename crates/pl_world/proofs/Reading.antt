@@ -1,4 +1,4 @@
-use Rattle.std.proofs.Common.{◌≡◌, ℕ, ◌-◌, ◌<◌, ◌≤◌, List, [], ◌++◌, length, sym, ◌∙◌, ap, subst, inl, inr, append_assoc, arith, length-append}
+use Rattle.std.proofs.Common.{◌≡◌, ℕ, ◌-◌, ◌<◌, ◌≤◌, List, [], ◌++◌, length, sym, ◌∙◌, ap, subst, inr, append_assoc, arith, length-append}
 use Rattle.std.proofs.lemmas.List.{length-replicate}
 use Rattle.std.specs.Prelude.{Option, replicate, Err}
 use Rattle.pl_world.specs.declared.trouble.Trouble.{Trouble}
@@ -33,10 +33,6 @@ IsPartOfFrame-short_body n header body spelled above below short =
     append_assoc header body rest ∙ ap (λ front. front ++ (body ++ rest)) (sym spelled ∙ ap length_bytes (sym whole_length))
     in
     inr (body ++ rest, rest, (omega arith, omega arith), omega arith, frame)
-
--- fewer than four bytes are a part of a frame
-pub IsPartOfFrame-short_header : (bytes : List ℕ) → length bytes < 4 → IsPartOfFrame bytes
-IsPartOfFrame-short_header bytes short = inl short
 
 -- what was taken where the outside did not do what it was asked to
 pub TakesFor-trouble : (trouble : Trouble) (P : List ℕ → Type 0) (bytes : List ℕ) → IsPartOfFrame bytes → P bytes → TakesFor (Err (frame_trouble trouble)) P

@@ -7,7 +7,7 @@ use Rattle.std.specs.Prelude.{Option, Some, None, option_map, Result, Ok, Err, O
 use Rattle.pl_world.specs.declared.trouble.Trouble.{Trouble}
 use Rattle.pl_world.specs.declared.trouble.Trouble.TheVariants.{Failed, OutOfMemory}
 use Rattle.pl_world.specs.Causes.{OnFailed, OnNoMemory}
-use Rattle.pl_world.specs.Told.{Grew, Shrank, Piece, bytes_of, Gave, GavePart, Took, TookMore}
+use Rattle.pl_world.specs.Told.{Grew, Shrank, Piece, bytes_of, Gave, GavePart, Took}
 
 -- what stays as it is grew by nothing
 pub Grew-nothing : {A : Type 0} (before now : Option (List A)) → now ≡ before → Grew before now []
@@ -20,11 +20,6 @@ Grew-append None second third xs ys before after = after ∙ ap (option_map (λ 
 Grew-append (Some told) second third xs ys before after =
     after ∙ ap (option_map (λ told. told ++ ys)) before ∙ ap Some (append_assoc told xs ys)
 
--- what stays as it is lost nothing
-pub Shrank-nothing : {A : Type 0} (before now : Option (List A)) → now ≡ before → Shrank before now []
-Shrank-nothing before None same = sym same
-Shrank-nothing before (Some told) same = sym same
-
 -- one loss after another
 pub Shrank-append : {A : Type 0} (first second third : Option (List A)) (xs ys : List A) → Shrank first second xs → Shrank second third ys → Shrank first third (xs ++ ys)
 Shrank-append first second None xs ys before after = before ∙ ap (option_map (λ told. xs ++ told)) after
@@ -35,10 +30,6 @@ Shrank-append first second (Some told) xs ys before after =
 pub bytes_of-append : (xs ys : List Piece) → bytes_of (xs ++ ys) ≡ bytes_of xs ++ bytes_of ys
 bytes_of-append [] ys = refl
 bytes_of-append (x ∷ xs) ys = ap (λ bytes. x.0 ++ bytes) (bytes_of-append xs ys) ∙ sym (append_assoc x.0 (bytes_of xs) (bytes_of ys))
-
--- what stays as it is was given nothing
-pub Gave-nothing : (before now : Option (List Piece)) (cover : Option (List ℕ)) → now ≡ before → Gave before now [] cover
-Gave-nothing before now cover same = ([], record { in_order = refl; covered = All-nil (λ piece. piece.1 ≡ cover) }, Grew-nothing before now same)
 
 -- one piece was given
 pub Gave-piece : (before now : Option (List Piece)) (bytes : List ℕ) (cover : Option (List ℕ)) → Grew before now ((bytes, cover) ∷ []) → Gave before now bytes cover
@@ -98,26 +89,6 @@ Took-append first second third first_left second_left third_left xs ys before af
   taken_grew = Grew-append first second third xs ys before.taken_grew after.taken_grew;
   left_shrank = Shrank-append first_left second_left third_left xs ys before.left_shrank after.left_shrank;
 }
-
--- nothing was taken
-pub Took-nothing : (before now left_before left_now : Option (List ℕ)) → now ≡ before → left_now ≡ left_before → Took before now left_before left_now []
-Took-nothing before now left_before left_now same left_same = record {
-  taken_grew = Grew-nothing before now same;
-  left_shrank = Shrank-nothing left_before left_now left_same;
-}
-
--- one keeping after another
-pub TookMore-append : (first second third first_left second_left third_left : Option (List ℕ)) (xs ys zs : List ℕ) → TookMore first second first_left second_left xs ys → TookMore second third second_left third_left ys zs → TookMore first third first_left third_left xs zs
-TookMore-append first second third first_left second_left third_left xs ys zs before after = (
-  before.0 ++ after.0,
-  after.1 ∙ ap (λ kept. kept ++ after.0) before.1 ∙ append_assoc xs before.0 after.0,
-  Took-append first second third first_left second_left third_left before.0 after.0 before.2 after.2,
-)
-
--- nothing was taken and kept
-pub TookMore-nothing : (before now left_before left_now : Option (List ℕ)) (xs ys : List ℕ) → ys ≡ xs → now ≡ before → left_now ≡ left_before → TookMore before now left_before left_now xs ys
-TookMore-nothing before now left_before left_now xs ys kept same left_same =
-    ([], kept ∙ sym (append-nil xs), Took-nothing before now left_before left_now same left_same)
 
 -- what a gift that went wrong leaves given, after the first bytes went
 pub GavePart-after_error : (trouble : Trouble) (first second third : Option (List Piece)) (sent : ℕ) (bytes : List ℕ) (cover : Option (List ℕ)) → sent ≤ length bytes → Gave first second (take sent bytes) cover → OnFailed {T = ℕ} (Err trouble) (GavePart second third (drop sent bytes) cover) → OnNoMemory {T = ℕ} (Err trouble) (third ≡ second) → GavePart first third bytes cover

@@ -15,8 +15,6 @@ mod pipe;
 mod sink;
 mod spawner;
 mod store;
-#[cfg(test)]
-mod tests;
 mod trouble;
 
 pub use frames::{FrameIn, MAX_BODY, read_frame, write_frame};
