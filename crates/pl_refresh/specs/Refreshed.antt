@@ -4,7 +4,7 @@ use Rattle.std.specs.Prelude.{ℕ, suc, Bool, true, if◌then◌else◌, filter,
 use Rattle.std.specs.List.{list_any}
 use Rattle.pl_value.specs.Secrets.{marked}
 use Rattle.pl_value.specs.declared.value.Value.{Value}
-use Rattle.pl_state.specs.Chain.{some_passes}
+use Rattle.pl_lemmas.specs.Words.{some_passes}
 use Rattle.pl_state.specs.References.{has_urn, is_provider}
 use Rattle.pl_state.specs.declared.entry.Entry.{Entry}
 use Rattle.pl_reference.specs.declared.reference.ProviderRef.{ProviderRef}

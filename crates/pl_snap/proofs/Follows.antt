@@ -1,8 +1,9 @@
 -- What the stamps tell over each call.
 use Rattle.std.proofs.Common.{◌≡◌, ℕ, zero, suc, ◌+◌, ◌<◌, ◌≤◌, ◌⊎◌, inl, inr, Bool, true, false, cond, ◌||◌, Option, None, Some, option_map, option_and_then, List, [], ◌∷◌, ◌++◌, length, map, slice_get, bytes_eq, refl, ap, sym, subst, ◌∙◌, arith}
 use Rattle.std.specs.List.{enumerate_from, list_any}
+use Rattle.pl_lemmas.proofs.Truth.{neither_left, neither_right}
 use Rattle.pl_reference.specs.declared.reference.ProviderRef.{ProviderRef}
-use Rattle.pl_state.specs.Chain.{some_passes}
+use Rattle.pl_lemmas.specs.Words.{some_passes}
 use Rattle.pl_state.specs.declared.entry.Entry.{Entry}
 use Rattle.pl_state.specs.declared.pending.Pending.{Pending}
 use Rattle.pl_value.specs.declared.value.Value.{Value}
@@ -15,14 +16,6 @@ use Rattle.pl_snap.specs.Stamps.{Follows, KeepsBelow, stamped_entries, stamped_p
 use Rattle.pl_snap.specs.Turning.{Turning, is_urn, mentions, turned, turned_entry, turned_pairs, turned_reference}
 
 -- ---- an entry that does not have the URN is not changed
-
-or_left : (a b : Bool) → (a || b) ≡ false → a ≡ false
-or_left true b e = cc
-or_left false b e = refl
-
-or_right : (a b : Bool) → (a || b) ≡ false → b ≡ false
-or_right true b e = absurd (cc)
-or_right false b e = e
 
 turned-other : (turning : Turning) (urn : List ℕ) → is_urn turning.old urn ≡ false → turned turning urn ≡ urn
 turned-other turning urn e = ap (λ b. cond b turning.new urn) e
@@ -38,16 +31,16 @@ reference-other turning (Some reference) e = ap (λ (urn : List ℕ). Some (reco
 all-other : (turning : Turning) (urns : List (List ℕ)) → list_any (is_urn turning.old) urns ≡ false → map (turned turning) urns ≡ urns
 all-other turning [] e = refl
 all-other turning (urn ∷ urns) e =
-    let here : turned turning urn ≡ urn = turned-other turning urn (or_left (is_urn turning.old urn) (list_any (is_urn turning.old) urns) e) in
-    let rest : map (turned turning) urns ≡ urns = all-other turning urns (or_right (is_urn turning.old urn) (list_any (is_urn turning.old) urns) e) in
+    let here : turned turning urn ≡ urn = turned-other turning urn (neither_left (is_urn turning.old urn) (list_any (is_urn turning.old) urns) e) in
+    let rest : map (turned turning) urns ≡ urns = all-other turning urns (neither_right (is_urn turning.old urn) (list_any (is_urn turning.old) urns) e) in
     λ i. here i ∷ rest i
 
 pairs-other : (turning : Turning) (pairs : List (List ℕ × List (List ℕ))) → list_any (λ pair. list_any (is_urn turning.old) pair.1) pairs ≡ false → turned_pairs turning pairs ≡ pairs
 pairs-other turning [] e = refl
 pairs-other turning (pair ∷ pairs) e =
     let any : List ℕ × List (List ℕ) → Bool = λ one. list_any (is_urn turning.old) one.1 in
-    let here : map (turned turning) pair.1 ≡ pair.1 = all-other turning pair.1 (or_left (any pair) (list_any any pairs) e) in
-    let rest : turned_pairs turning pairs ≡ pairs = pairs-other turning pairs (or_right (any pair) (list_any any pairs) e) in
+    let here : map (turned turning) pair.1 ≡ pair.1 = all-other turning pair.1 (neither_left (any pair) (list_any any pairs) e) in
+    let rest : turned_pairs turning pairs ≡ pairs = pairs-other turning pairs (neither_right (any pair) (list_any any pairs) e) in
     λ i. (pair.0, here i) ∷ rest i
 
 -- six tests none of which passes

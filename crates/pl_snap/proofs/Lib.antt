@@ -1,3 +1,4 @@
+pub mod Bearers
 pub mod Follows
 pub mod Kept
 pub mod ListLemmas

@@ -70,10 +70,6 @@ map_first f g u h [] (y ∷ ys) e = absurd (omega arith)
 map_first f g u h (x ∷ xs) [] e = absurd (omega arith)
 map_first f g u h (x ∷ xs) (y ∷ ys) e = λ i. h x y i ∷ map_first f g u h xs ys (omega arith) i
 
-pub map_same : {X : Type 0} (xs : List X) → map (λ x. x) xs ≡ xs
-map_same [] = refl
-map_same (x ∷ xs) = ap (λ ys. x ∷ ys) (map_same xs)
-
 pub get_map : {X Y : Type 0} (g : X → Y) (xs : List X) (k : ℕ) → option_map g (slice_get xs k) ≡ slice_get (map g xs) k
 get_map g [] k = refl
 get_map g (x ∷ xs) zero = refl

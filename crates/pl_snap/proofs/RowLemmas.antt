@@ -2,7 +2,7 @@
 use Rattle.std.proofs.Common.{◌≡◌, ℕ, zero, suc, ◌+◌, ◌<◌, ◌≤◌, ◌^◌, ◌==◌, Bool, true, false, cond, Option, None, Some, option_map, option_and_then, List, [], ◌∷◌, ◌++◌, length, map, find, take, drop, get_or, count_by, refl, ap, sym, subst, ◌∙◌, arith, eqb-true, eq-eqb, suc-ne-zero}
 use Rattle.std.specs.Prelude.{position, slice_get, remove, bytes_eq}
 use Rattle.std.specs.List.{enumerate_from, range_with_len}
-use Rattle.std.proofs.lemmas.List.{take_more}
+use Rattle.std.proofs.lemmas.List.{take_more, map-id}
 use Rattle.std.proofs.lemmas.List.FromFn.{length-map-range_with_len, map-range_with_len_more}
 use Rattle.std.proofs.lemmas.List.Sums.{sum_by-cons}
 use Rattle.pl_state.specs.declared.entry.Entry.{Entry}
@@ -12,7 +12,8 @@ use Rattle.pl_snap.specs.Lists.{changed_at, changed_first, without_first, zip_by
 use Rattle.pl_snap.specs.Model.{Row, Waiting}
 use Rattle.pl_snap.specs.Rows.{first_rows, first_tags, first_waiting, fits, has_number, is_counted, is_row, is_waiting, rows_in, set_end, set_rows, stamped, tagged_pending, tagged_row, tagged_rows, turned_row, turned_rows, turned_tag, turned_tags, turning_of}
 use Rattle.pl_snap.specs.Turning.{Turning, mentions, turned_entry}
-use Rattle.pl_snap.proofs.ListLemmas.{changed_zip, found_zip, get_map, length-changed_at, length-zip, map_first, map_same, map_second, missing_zip, place, place_within, position-place, removed_zip, zip-append}
+use Rattle.pl_snap.proofs.ListLemmas.{changed_zip, found_zip, get_map, length-changed_at, length-zip, map_first, map_second, missing_zip, place, place_within, position-place, removed_zip, zip-append}
+use Rattle.pl_snap.proofs.Kept.{length-set_rows}
 
 -- ---- tags
 
@@ -75,10 +76,6 @@ waiting_first first operations =
 pub tagged_length : (tags : List Tag) (entries : List Entry) → fits None tags entries ≡ true → length tags ≡ length entries
 tagged_length tags entries fit = eqb-true (length tags) (length entries) fit
 
-length-set_rows : (first : ℕ) (entries : List Entry) → length (set_rows first entries) ≡ length entries
-length-set_rows first [] = refl
-length-set_rows first (entry ∷ entries) = ap suc (length-set_rows (first + 1) entries)
-
 entries-set_rows : (first : ℕ) (entries : List Entry) → map (λ row. row.entry) (set_rows first entries) ≡ entries
 entries-set_rows first [] = refl
 entries-set_rows first (entry ∷ entries) = ap (λ es. entry ∷ es) (entries-set_rows (first + 1) entries)
@@ -98,7 +95,7 @@ length-rows (Some first) tags entries fit = length-set_rows first entries
 
 pub entries-rows : (set : Option ℕ) (tags : List Tag) (entries : List Entry) → fits set tags entries ≡ true → map (λ row. row.entry) (rows_in set tags entries) ≡ entries
 entries-rows None tags entries fit =
-    map_second tagged_row (λ row. row.entry) (λ entry. entry) (λ tag entry. refl) tags entries (tagged_length tags entries fit) ∙ map_same entries
+    map_second tagged_row (λ row. row.entry) (λ entry. entry) (λ tag entry. refl) tags entries (tagged_length tags entries fit) ∙ map-id entries
 entries-rows (Some first) tags entries fit = entries-set_rows first entries
 
 pub entry-row : (set : Option ℕ) (tags : List Tag) (entries : List Entry) (k : ℕ) → fits set tags entries ≡ true → option_map (λ row. row.entry) (slice_get (rows_in set tags entries) k) ≡ slice_get entries k
@@ -127,13 +124,6 @@ pub missing-row : (set : Option ℕ) (tags : List Tag) (entries : List Entry) (n
 missing-row None tags entries number none =
     missing_zip tagged_row (is_row number) (has_number number) (λ tag entry. refl) tags entries (sym (position-place (has_number number) tags) ∙ none)
 missing-row (Some first) tags entries number none = find-set_rows number first entries
-
-pub within-row : (set : Option ℕ) (tags : List Tag) (entries : List Entry) (number k : ℕ) → fits set tags entries ≡ true → position (has_number number) tags ≡ Some k → (k < length tags) × (k < length entries)
-within-row None tags entries number k fit at =
-    let same : length tags ≡ length entries = tagged_length tags entries fit in
-    let inside : k < length tags = place_within (has_number number) tags k (place_is number tags k at) in
-    (inside, omega arith)
-within-row (Some first) tags entries number k fit at = absurd (nowhere number k first tags entries fit (place_is number tags k at))
 
 pub found-row : (set : Option ℕ) (tags : List Tag) (entries : List Entry) (number k : ℕ) → fits set tags entries ≡ true → position (has_number number) tags ≡ Some k → option_map (λ row. row.entry) (find (is_row number) (rows_in set tags entries)) ≡ slice_get entries k
 found-row None tags entries number k fit at =
@@ -212,7 +202,7 @@ turned-claim (Some one) row urn first rows made found differs is =
 
 pub pending-waiting : (tags : List Tag) (operations : List Pending) → length tags ≡ length operations → map (λ one. one.pending) (zip_by tagged_pending tags operations) ≡ operations
 pending-waiting tags operations same =
-    map_second tagged_pending (λ one. one.pending) (λ pending. pending) (λ tag pending. refl) tags operations same ∙ map_same operations
+    map_second tagged_pending (λ one. one.pending) (λ pending. pending) (λ tag pending. refl) tags operations same ∙ map-id operations
 
 pub counted-waiting : (tags : List Tag) (operations : List Pending) → length tags ≡ length operations → count_by (λ one. is_counted one.pending) (zip_by tagged_pending tags operations) ≡ count_by is_counted operations
 counted-waiting [] [] same = refl
@@ -226,9 +216,6 @@ counted-waiting (tag ∷ tags) (pending ∷ operations) same =
 pub missing-waiting : (tags : List Tag) (operations : List Pending) (number : ℕ) → position (has_number number) tags ≡ None → find (is_waiting number) (zip_by tagged_pending tags operations) ≡ None
 missing-waiting tags operations number none =
     missing_zip tagged_pending (is_waiting number) (has_number number) (λ tag pending. refl) tags operations (sym (position-place (has_number number) tags) ∙ none)
-
-pub within-waiting : (tags : List Tag) (number k : ℕ) → position (has_number number) tags ≡ Some k → k < length tags
-within-waiting tags number k at = place_within (has_number number) tags k (place_is number tags k at)
 
 pub removed-waiting : (tags : List Tag) (operations : List Pending) (number k : ℕ) → length tags ≡ length operations → position (has_number number) tags ≡ Some k → (length (remove tags k) ≡ length (remove operations k)) × (zip_by tagged_pending (remove tags k) (remove operations k) ≡ without_first (is_waiting number) (zip_by tagged_pending tags operations))
 removed-waiting tags operations number k same at =

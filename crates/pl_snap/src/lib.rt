@@ -11,4 +11,5 @@ mod turning;
 mod waiting;
 
 pub use laws::stamps_tell;
+pub use pl_refresh::planned_outputs;
 pub use snap::Snap;

@@ -2,6 +2,7 @@ ghost use Rattle.std.specs.Prelude.{◌≡◌, ◌+◌, ◌<◌, ◌≤◌, ◌^
 ghost use Rattle.pl_snap.specs.Calls as spec;
 ghost use Rattle.pl_snap.specs.Model.{entries_of, stamps_of, state_of, waiting_of};
 ghost use Rattle.pl_snap.specs.Rows.{is_row};
+ghost use Rattle.pl_snap.specs.Stamps.{AreBelow, AreDistinct, all_stamps};
 
 use crate::fresh::{Fresh, copy_fresh, put_told};
 use crate::rows::OldRows;
@@ -327,6 +328,15 @@ impl Snap {
         ensures { result ≡ self.now.next_stamp }
     {
         self.next_stamp
+    }
+
+    /// The stamps tell all entries and pending operations apart, and those that come later are still free. Nothing is
+    /// done.
+    pub fn stamps_distinct(&self)
+        ensures distinct { AreDistinct (all_stamps self.now) }
+        ensures later_free { AreBelow (all_stamps self.now) self.now.next_stamp }
+    {
+        let _ = &self.next_stamp;
     }
 
     /// The entry of the row with this number in the state at the start, as it stands now, if it is left.

@@ -1,4 +1,0 @@
-pub mod Above
-pub mod Ancestors
-pub mod Behind
-pub mod Covers

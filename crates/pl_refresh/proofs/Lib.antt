@@ -1,0 +1,5 @@
+pub mod Above
+pub mod Ancestors
+pub mod Behind
+pub mod Covers
+pub mod Over
