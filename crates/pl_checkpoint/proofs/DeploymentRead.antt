@@ -5,10 +5,10 @@ use Rattle.pl_state.specs.declared.entry.Entry.{Entry}
 use Rattle.pl_state.specs.declared.pending.Pending.{Pending}
 use Rattle.pl_state.specs.declared.snapshot.Snapshot.{Snapshot}
 use Rattle.pl_checkpoint.proofs.Told.{stop}
-use Rattle.pl_checkpoint.specs.Read.{TellsFault, count_of, deployment_keys, deployment_of, if_sound, with_own_manifest, within_limit}
-use Rattle.pl_checkpoint.specs.ReadEntry.{entry_in, other_members, pending_in, unread_of}
-use Rattle.pl_checkpoint.specs.ReadField.{Reading, ◌>>=◌, elements, field_path, items_in, members_in, optional}
-use Rattle.pl_checkpoint.specs.declared.fault.ReadFault.{ReadFault}
+use Rattle.pl_checkpoint_text.specs.Read.{TellsFault, count_of, deployment_keys, deployment_of, if_sound, with_own_manifest, within_limit}
+use Rattle.pl_checkpoint_text.specs.ReadEntry.{entry_in, other_members, pending_in, unread_of}
+use Rattle.pl_checkpoint_text.specs.ReadField.{Reading, ◌>>=◌, elements, field_path, items_in, members_in, optional}
+use Rattle.pl_checkpoint_text.specs.declared.fault.ReadFault.{ReadFault}
 
 -- the parts that were read of a deployment before its pending operations
 pub record AreParts (path : List ℕ) (ms : Members) (resources operations : Items) (manifest : Members) (rest : List ℕ) (entries : List Entry) : Type 0 where

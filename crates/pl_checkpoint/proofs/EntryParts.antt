@@ -1,8 +1,8 @@
 -- An entry is read part by part.
 use Rattle.std.proofs.Common.{◌≡◌, ℕ, false, List, [], codes, None, Ok, Err, refl}
 use Rattle.serde_json.specs.Data.{Members}
-use Rattle.pl_checkpoint.specs.ReadEntry.{entry_keys, entry_of, other_members, unread_of}
-use Rattle.pl_checkpoint.specs.ReadField.{Reading, ◌>>=◌, required, optional, flag_in, nonempty_in, urn_in, text_of, urn_of, reference_of, some_in, values_in, texts_in, urns_in, properties_in}
+use Rattle.pl_checkpoint_text.specs.ReadEntry.{entry_keys, entry_of, other_members, unread_of}
+use Rattle.pl_checkpoint_text.specs.ReadField.{Reading, ◌>>=◌, required, optional, flag_in, nonempty_in, urn_in, text_of, urn_of, reference_of, some_in, values_in, texts_in, urns_in, properties_in}
 use Rattle.pl_checkpoint.specs.ReadParts.{entry_by_parts, further_of, last_of, linked_of, named_of, placed_of}
 
 -- three readings in a part of their own

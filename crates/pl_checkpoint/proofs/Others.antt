@@ -14,8 +14,8 @@ use Rattle.serde_json.proofs.Views.{Entry}
 use Rattle.serde_json.specs.Data.{Num, unsigned, negative, float, Data, null, boolean, number, string, array, object, Items, no_items, item, Members, no_members, member, put}
 use Rattle.serde_json.specs.View.{view, members_view}
 use Rattle.serde_json.specs.Written.{has_float, items_have_float, members_have_float}
-use Rattle.pl_checkpoint.specs.Formed.{is_one_of, is_whole}
-use Rattle.pl_checkpoint.specs.ReadEntry.{first_of, items_fault, members_fault, other_members, unread_fault}
+use Rattle.pl_checkpoint_text.specs.Formed.{is_one_of, is_whole}
+use Rattle.pl_checkpoint_text.specs.ReadEntry.{first_of, items_fault, members_fault, other_members, unread_fault}
 
 -- ---- one more member
 

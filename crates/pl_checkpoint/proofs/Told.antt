@@ -3,10 +3,10 @@ use Rattle.std.proofs.Common.{◌≡◌, ℕ, ◌+◌, List, [], ◌∷◌, ◌+
 use Rattle.serde_json.proofs.Views.{Entry}
 use Rattle.serde_json.specs.Data.{Data, Items, item}
 use Rattle.serde_json.specs.View.{view, members_view}
-use Rattle.pl_checkpoint.specs.Read.{Tells, TellsFault}
-use Rattle.pl_checkpoint.specs.declared.fault.ReadFault.{ReadFault}
-use Rattle.pl_checkpoint.specs.declared.fault.ReadFault.TheVariants.{Bad, OutOfMemory}
-use Rattle.pl_checkpoint.specs.ReadField.{Reading, ◌>>=◌, element_path, elements, field_path, or_default, properties_of, unless_null, urns_in}
+use Rattle.pl_checkpoint_text.specs.Read.{Tells, TellsFault}
+use Rattle.pl_checkpoint_text.specs.declared.fault.ReadFault.{ReadFault}
+use Rattle.pl_checkpoint_text.specs.declared.fault.ReadFault.TheVariants.{Bad, OutOfMemory}
+use Rattle.pl_checkpoint_text.specs.ReadField.{Reading, ◌>>=◌, element_path, elements, field_path, or_default, properties_of, unless_null, urns_in}
 
 -- these, and then what is read of the others
 abbrev pub after : {A : Type 0} → List A → Reading (List A) → Reading (List A)
@@ -16,11 +16,6 @@ after made others = others >>= λ more. Ok (made ++ more)
 pub after-next : {A : Type 0} (made : List A) (one : A) (others : Reading (List A)) → after made (others >>= λ more. Ok (one ∷ more)) ≡ after (made ++ one ∷ []) others
 after-next made one (Ok more) = ap Ok (sym (append_assoc made (one ∷ []) more))
 after-next made one (Err why) = refl
-
--- nothing before
-pub after-none : {A : Type 0} (others : Reading (List A)) → after [] others ≡ others
-after-none (Ok more) = refl
-after-none (Err why) = refl
 
 -- the next list of URNs is read
 pub properties_of-next : (path : List ℕ) (e : Entry) (left : List Entry) (urns : List (List ℕ)) (made : List (List ℕ × List (List ℕ)))

@@ -2,8 +2,8 @@
 use Rattle.std.specs.Prelude.{ℕ, false, List, [], codes, None, Ok}
 use Rattle.pl_state.specs.declared.entry.Entry.{Entry}
 use Rattle.serde_json.specs.Data.{Members}
-use Rattle.pl_checkpoint.specs.ReadEntry.{entry_keys, other_members, unread_of}
-use Rattle.pl_checkpoint.specs.ReadField.{Reading, ◌>>=◌, required, optional, flag_in, nonempty_in, urn_in, text_of, urn_of, reference_of, some_in, values_in, texts_in, urns_in, properties_in}
+use Rattle.pl_checkpoint_text.specs.ReadEntry.{entry_keys, other_members, unread_of}
+use Rattle.pl_checkpoint_text.specs.ReadField.{Reading, ◌>>=◌, required, optional, flag_in, nonempty_in, urn_in, text_of, urn_of, reference_of, some_in, values_in, texts_in, urns_in, properties_in}
 use Rattle.pl_checkpoint.specs.declared.sections.Further.{Further}
 use Rattle.pl_checkpoint.specs.declared.sections.Last.{Last}
 use Rattle.pl_checkpoint.specs.declared.sections.Linked.{Linked}

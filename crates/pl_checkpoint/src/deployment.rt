@@ -1,32 +1,28 @@
 ghost use Rattle.std.specs.Prelude.{◌≡◌, OnOk};
 ghost use Rattle.serde_json.specs.Data.{no_items};
 ghost use Rattle.serde_json.specs.View.{items_view, members_view, view};
-ghost use Rattle.pl_checkpoint.specs.Read.{count_items, count_of, deployment_keys, deployment_of, if_sound, makes_one, Tells, TellsAs, with_own_manifest, within_limit};
-ghost use Rattle.pl_checkpoint.specs.ReadEntry.{entry_in, other_members, pending_in, unread_of};
-ghost use Rattle.pl_checkpoint.specs.ReadField.{elements, items_in, optional};
+ghost use Rattle.pl_checkpoint_text.specs.Read.{count_items, count_of, deployment_keys, deployment_of, if_sound, makes_one, Tells, TellsAs, with_own_manifest, within_limit};
+ghost use Rattle.pl_checkpoint_text.specs.ReadEntry.{entry_in, other_members, pending_in, unread_of};
+ghost use Rattle.pl_checkpoint_text.specs.ReadField.{elements, items_in, optional};
 
 use crate::entry::entry_in;
-use crate::fault::ReadFault;
 use crate::kept::{other_members, unread_of};
 use crate::kinds::{given, wrong_kind};
-use crate::members::Members;
 use crate::operation::pending_in;
 use crate::path::{element_path, field_path};
 use crate::reader::members_if_some;
+use pl_checkpoint_text::{Members, ReadFault};
 use pl_sound::is_sound;
-use pl_state::{BadCheckpoint, Entries, Pendings, Snapshot, UnsoundOrMemory};
+use pl_state::{BadCheckpoint, Entries, MOST_RESOURCES, Pendings, Snapshot, UnsoundOrMemory};
 use pl_value::{OutOfMemory, Text};
 use serde_json::{Map, Value as Json, put};
 use std::alloc::Global;
-
-/// The most resources that there may be, with the pending operations that may make one.
-const MOST_RESOURCES: u64 = 10_000;
 
 /// The keys of a deployment that are read.
 const DEPLOYMENT_KEYS: [&str; 2] = ["pending_operations", "resources"];
 
 /// The state of a stack of this name, whose deployment has these members and stands at the path.
-#[tactic(auto, unfolding(crate::specs::Read::deployment_of))]
+#[tactic(auto, unfolding(pl_checkpoint_text::specs::Read::deployment_of))]
 pub fn deployment_of(
     alloc: Global,
     path: &str,
@@ -62,7 +58,7 @@ pub fn deployment_of(
 }
 
 /// A list; an empty one where it is absent.
-#[tactic(auto, unfolding(crate::specs::ReadField::optional))]
+#[tactic(auto, unfolding(pl_checkpoint_text::specs::ReadField::optional))]
 fn items_at<'a>(
     alloc: Global,
     members: &'a Members,
@@ -137,7 +133,7 @@ fn add_manifest(alloc: Global, members: &mut Members) -> Result<(), OutOfMemory>
 }
 
 /// The elements of the list of resources at the path.
-#[tactic(auto, unfolding(crate::specs::ReadField::elements))]
+#[tactic(auto, unfolding(pl_checkpoint_text::specs::ReadField::elements))]
 fn entries_of(alloc: Global, items: &[Json], path: &str) -> Result<Entries, ReadFault>
     ensures { Tells (elements entry_in path.now 0 (items_view items.now)) result }
 {
@@ -151,7 +147,7 @@ fn entries_of(alloc: Global, items: &[Json], path: &str) -> Result<Entries, Read
 }
 
 /// The elements of the list of pending operations at the path.
-#[tactic(auto, unfolding(crate::specs::ReadField::elements))]
+#[tactic(auto, unfolding(pl_checkpoint_text::specs::ReadField::elements))]
 fn pendings_of(alloc: Global, items: &[Json], path: &str) -> Result<Pendings, ReadFault>
     ensures { Tells (elements pending_in path.now 0 (items_view items.now)) result }
 {

@@ -1,13 +1,12 @@
 ghost use Rattle.std.specs.Prelude.{◌≡◌};
 ghost use Rattle.serde_json.specs.View.{members_view, view};
-ghost use Rattle.pl_checkpoint.specs.Read.{Tells};
-ghost use Rattle.pl_checkpoint.specs.ReadEntry.{entry_in};
+ghost use Rattle.pl_checkpoint_text.specs.Read.{Tells};
+ghost use Rattle.pl_checkpoint_text.specs.ReadEntry.{entry_in};
 ghost use Rattle.pl_checkpoint.specs.ReadParts.{entry_by_parts};
 
-use crate::fault::ReadFault;
 use crate::kinds::wrong_kind;
-use crate::members::Members;
 use crate::sections::{further_of, joined, last_of, linked_of, named_of, placed_of};
+use pl_checkpoint_text::{Members, ReadFault};
 use pl_state::Entry;
 use pl_value::Text;
 use serde_json::Value as Json;

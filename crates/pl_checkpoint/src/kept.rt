@@ -1,15 +1,14 @@
 ghost use Rattle.std.specs.Prelude.{◌≡◌, ◌++◌, [], false, IfOk, if◌then◌else◌, map, None, Some};
 ghost use Rattle.pl_json.specs.Faults.{behind, element_step, key_step};
-ghost use Rattle.pl_checkpoint.specs.Formed.{is_one_of, is_whole};
-ghost use Rattle.pl_checkpoint.specs.Read.{Tells};
-ghost use Rattle.pl_checkpoint.specs.ReadEntry.{entry_keys, items_fault, members_fault, other_members, unread_fault, unread_of};
+ghost use Rattle.pl_checkpoint_text.specs.Formed.{is_one_of, is_whole};
+ghost use Rattle.pl_checkpoint_text.specs.Read.{Tells};
+ghost use Rattle.pl_checkpoint_text.specs.ReadEntry.{entry_keys, items_fault, members_fault, other_members, unread_fault, unread_of};
 ghost use Rattle.serde_json.specs.Data.{object};
 ghost use Rattle.serde_json.specs.View.{items_view, members_view, number_view, view};
 ghost use Rattle.serde_json.specs.Written.{compact_text, members_have_float};
 
-use crate::fault::ReadFault;
-use crate::members::Members;
 use crate::version::is_whole;
+use pl_checkpoint_text::{Members, ReadFault};
 use pl_state::BadCheckpoint;
 use pl_value::{JsonFault, OutOfMemory, Text};
 use serde_json::{Map, Number, Value as Json, put};
@@ -80,7 +79,7 @@ fn is_one_of(keys: &[&str], key: &str) -> bool
 }
 
 /// The text of the members that are kept unread, of the object at the path.
-#[tactic(auto, unfolding(crate::specs::ReadEntry::unread_of))]
+#[tactic(auto, unfolding(pl_checkpoint_text::specs::ReadEntry::unread_of))]
 pub fn unread_of(alloc: Global, members: Members, path: &str) -> Result<Text, ReadFault>
     ensures { Tells (unread_of path.now (members_view members.entries)) result }
 {

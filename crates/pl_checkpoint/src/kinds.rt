@@ -1,12 +1,11 @@
 ghost use Rattle.std.specs.Prelude.{◌≡◌, false, None, [], option_map};
 ghost use Rattle.serde_json.specs.Find.{get_member};
 ghost use Rattle.serde_json.specs.View.{members_view, view};
-ghost use Rattle.pl_checkpoint.specs.Read.{Tells};
-ghost use Rattle.pl_checkpoint.specs.ReadField.{flag_in, given, nonempty_in, optional, reference_of, required, some_in, text_in, text_of, unless_empty_text, urn_in, urn_of, values_in};
+ghost use Rattle.pl_checkpoint_text.specs.Read.{Tells};
+ghost use Rattle.pl_checkpoint_text.specs.ReadField.{flag_in, given, nonempty_in, optional, reference_of, required, some_in, text_in, text_of, unless_empty_text, urn_in, urn_of, values_in};
 
-use crate::fault::ReadFault;
-use crate::members::Members;
 use crate::path::field_path;
+use pl_checkpoint_text::{Members, ReadFault};
 use pl_json::FieldsFault;
 use pl_state::{BadCheckpoint, ProviderRef, RefFault, read_ref};
 use pl_urn::{Urn, UrnFault};
@@ -49,7 +48,7 @@ fn bad_urn(path: Text) -> ReadFault
 }
 
 /// A flag, which is false where it is absent.
-#[tactic(auto, unfolding(crate::specs::ReadField::optional))]
+#[tactic(auto, unfolding(pl_checkpoint_text::specs::ReadField::optional))]
 pub fn flag(alloc: Global, members: &Members, path: &str, key: &str) -> Result<bool, ReadFault>
     ensures { Tells (optional false flag_in path.now key.now (members_view members.now.entries)) result }
 {
@@ -73,7 +72,7 @@ pub fn text_in(alloc: Global, value: &Json, path: Text) -> Result<Text, ReadFaul
 }
 
 /// A text that has to be there.
-#[tactic(auto, unfolding(crate::specs::ReadField::required))]
+#[tactic(auto, unfolding(pl_checkpoint_text::specs::ReadField::required))]
 pub fn required_text(
     alloc: Global,
     members: &Members,
@@ -96,7 +95,7 @@ fn unless_empty(text: &str) -> Option<&str>
 }
 
 /// A text that has to be there and is not empty.
-#[tactic(auto, unfolding(crate::specs::ReadField::required))]
+#[tactic(auto, unfolding(pl_checkpoint_text::specs::ReadField::required))]
 pub fn nonempty(alloc: Global, members: &Members, path: &str, key: &str) -> Result<Text, ReadFault>
     ensures { Tells (required nonempty_in path.now key.now (members_view members.now.entries)) result }
 {
@@ -134,7 +133,7 @@ pub fn urn_in(alloc: Global, value: &Json, path: Text) -> Result<Urn, ReadFault>
 }
 
 /// A URN that has to be there.
-#[tactic(auto, unfolding(crate::specs::ReadField::required))]
+#[tactic(auto, unfolding(pl_checkpoint_text::specs::ReadField::required))]
 pub fn required_urn(
     alloc: Global,
     members: &Members,
@@ -151,7 +150,7 @@ pub fn required_urn(
 }
 
 /// A text; none where it is absent or empty.
-#[tactic(auto, unfolding(crate::specs::ReadField::optional))]
+#[tactic(auto, unfolding(pl_checkpoint_text::specs::ReadField::optional))]
 pub fn text_if_some(
     alloc: Global,
     members: &Members,
@@ -174,7 +173,7 @@ pub fn text_if_some(
 }
 
 /// A URN; none where it is absent or an empty text.
-#[tactic(auto, unfolding(crate::specs::ReadField::optional))]
+#[tactic(auto, unfolding(pl_checkpoint_text::specs::ReadField::optional))]
 pub fn urn_if_some(
     alloc: Global,
     members: &Members,
@@ -208,7 +207,7 @@ fn reference_of(alloc: Global, text: &str, path: Text) -> Result<ProviderRef, Re
 }
 
 /// A provider's URN and id; none where they are absent or an empty text.
-#[tactic(auto, unfolding(crate::specs::ReadField::optional))]
+#[tactic(auto, unfolding(pl_checkpoint_text::specs::ReadField::optional))]
 pub fn reference_if_some(
     alloc: Global,
     members: &Members,
@@ -231,7 +230,7 @@ pub fn reference_if_some(
 }
 
 /// An object of values; none where it is absent.
-#[tactic(auto, unfolding(crate::specs::ReadField::optional))]
+#[tactic(auto, unfolding(pl_checkpoint_text::specs::ReadField::optional))]
 pub fn values(alloc: Global, members: &Members, path: &str, key: &str) -> Result<Fields, ReadFault>
     ensures { Tells (optional [] values_in path.now key.now (members_view members.now.entries)) result }
 {

@@ -1,19 +1,18 @@
 ghost use Rattle.std.specs.Prelude.{◌≡◌, [], Some};
 ghost use Rattle.serde_json.specs.View.{items_view, members_view, view};
-ghost use Rattle.pl_checkpoint.specs.Read.{Tells};
-ghost use Rattle.pl_checkpoint.specs.ReadField.{elements, optional, or_default, properties_in, properties_of, text_in, texts_in, unless_null, urn_in, urns_in};
+ghost use Rattle.pl_checkpoint_text.specs.Read.{Tells};
+ghost use Rattle.pl_checkpoint_text.specs.ReadField.{elements, optional, or_default, properties_in, properties_of, text_in, texts_in, unless_null, urn_in, urns_in};
 
-use crate::fault::ReadFault;
 use crate::kinds::{given, text_in, urn_in, wrong_kind};
-use crate::members::Members;
 use crate::path::{element_path, field_path};
+use pl_checkpoint_text::{Members, ReadFault};
 use pl_state::{KeyedUrns, Urns};
 use pl_value::{Text, Texts};
 use serde_json::Value as Json;
 use std::alloc::Global;
 
 /// A list of texts; none where it is absent.
-#[tactic(auto, unfolding(crate::specs::ReadField::optional))]
+#[tactic(auto, unfolding(pl_checkpoint_text::specs::ReadField::optional))]
 pub fn texts(alloc: Global, members: &Members, path: &str, key: &str) -> Result<Texts, ReadFault>
     ensures { Tells (optional [] texts_in path.now key.now (members_view members.now.entries)) result }
 {
@@ -28,7 +27,7 @@ pub fn texts(alloc: Global, members: &Members, path: &str, key: &str) -> Result<
 }
 
 /// The elements of the list of texts at the path.
-#[tactic(auto, unfolding(crate::specs::ReadField::elements))]
+#[tactic(auto, unfolding(pl_checkpoint_text::specs::ReadField::elements))]
 fn texts_of(alloc: Global, items: &[Json], path: &str) -> Result<Texts, ReadFault>
     ensures { Tells (elements text_in path.now 0 (items_view items.now)) result }
 {
@@ -42,7 +41,7 @@ fn texts_of(alloc: Global, items: &[Json], path: &str) -> Result<Texts, ReadFaul
 }
 
 /// A list of URNs; none where it is absent.
-#[tactic(auto, unfolding(crate::specs::ReadField::optional))]
+#[tactic(auto, unfolding(pl_checkpoint_text::specs::ReadField::optional))]
 pub fn urns(alloc: Global, members: &Members, path: &str, key: &str) -> Result<Urns, ReadFault>
     ensures { Tells (optional [] urns_in path.now key.now (members_view members.now.entries)) result }
 {
@@ -63,7 +62,7 @@ fn urns_in(alloc: Global, value: &Json, path: Text) -> Result<Urns, ReadFault>
 }
 
 /// The elements of the list of URNs at the path.
-#[tactic(auto, unfolding(crate::specs::ReadField::elements))]
+#[tactic(auto, unfolding(pl_checkpoint_text::specs::ReadField::elements))]
 fn urns_of(alloc: Global, items: &[Json], path: &str) -> Result<Urns, ReadFault>
     ensures { Tells (elements urn_in path.now 0 (items_view items.now)) result }
 {
@@ -77,7 +76,7 @@ fn urns_of(alloc: Global, items: &[Json], path: &str) -> Result<Urns, ReadFault>
 }
 
 /// Lists of URNs by their keys; none where they are absent.
-#[tactic(auto, unfolding(crate::specs::ReadField::optional))]
+#[tactic(auto, unfolding(pl_checkpoint_text::specs::ReadField::optional))]
 pub fn properties(
     alloc: Global,
     members: &Members,
@@ -97,7 +96,7 @@ pub fn properties(
 }
 
 /// The lists of URNs in the object at the path; a null list is empty.
-#[tactic(auto, unfolding(crate::specs::ReadField::properties_of))]
+#[tactic(auto, unfolding(pl_checkpoint_text::specs::ReadField::properties_of))]
 fn properties_of(alloc: Global, members: &Members, path: &str) -> Result<KeyedUrns, ReadFault>
     ensures { Tells (properties_of path.now (members_view members.now.entries)) result }
 {

@@ -1,14 +1,13 @@
 ghost use Rattle.std.specs.Prelude.{◌≡◌};
 ghost use Rattle.serde_json.specs.View.{members_view, view};
-ghost use Rattle.pl_checkpoint.specs.Read.{Tells};
-ghost use Rattle.pl_checkpoint.specs.ReadEntry.{entry_in, kind_called, kind_in, pending_in, pending_of};
-ghost use Rattle.pl_checkpoint.specs.ReadField.{required};
+ghost use Rattle.pl_checkpoint_text.specs.Read.{Tells};
+ghost use Rattle.pl_checkpoint_text.specs.ReadEntry.{entry_in, kind_called, kind_in, pending_in, pending_of};
+ghost use Rattle.pl_checkpoint_text.specs.ReadField.{required};
 
 use crate::entry::entry_in;
-use crate::fault::ReadFault;
 use crate::kinds::{given, missing, wrong_kind};
-use crate::members::Members;
 use crate::path::field_path;
+use pl_checkpoint_text::{Members, ReadFault};
 use pl_state::{Entry, Pending, PendingKind};
 use pl_value::Text;
 use serde_json::Value as Json;
@@ -25,7 +24,7 @@ pub fn pending_in(alloc: Global, value: &Json, path: Text) -> Result<Pending, Re
 }
 
 /// The pending operation whose fields are these members, at the path.
-#[tactic(auto, unfolding(crate::specs::ReadEntry::pending_of))]
+#[tactic(auto, unfolding(pl_checkpoint_text::specs::ReadEntry::pending_of))]
 fn pending_of(alloc: Global, members: &Members, path: &str) -> Result<Pending, ReadFault>
     ensures { Tells (pending_of path.now (members_view members.now.entries)) result }
 {
@@ -34,7 +33,7 @@ fn pending_of(alloc: Global, members: &Members, path: &str) -> Result<Pending, R
     Ok(Pending { kind, entry })
 }
 
-#[tactic(auto, unfolding(crate::specs::ReadField::required))]
+#[tactic(auto, unfolding(pl_checkpoint_text::specs::ReadField::required))]
 fn pending_kind(
     alloc: Global,
     members: &Members,
@@ -66,7 +65,7 @@ fn kind_called(word: &str) -> Option<PendingKind>
     }
 }
 
-#[tactic(auto, unfolding(crate::specs::ReadField::required))]
+#[tactic(auto, unfolding(pl_checkpoint_text::specs::ReadField::required))]
 fn required_entry(
     alloc: Global,
     members: &Members,

@@ -1,5 +1,5 @@
 ghost use Rattle.std.specs.Prelude.{◌≡◌, IfOk};
-ghost use Rattle.pl_checkpoint.specs.ReadField.{element_path, field_path};
+ghost use Rattle.pl_checkpoint_text.specs.ReadField.{element_path, field_path};
 
 use pl_value::{OutOfMemory, Text};
 use std::alloc::Global;

@@ -1,17 +1,16 @@
 ghost use Rattle.std.specs.Prelude.{◌≡◌, [], IfErr, IfOk, Ok, option_map, Some, unwrap_or};
 ghost use Rattle.serde_json.specs.Data.{no_members};
 ghost use Rattle.serde_json.specs.View.{members_view, view};
-ghost use Rattle.pl_checkpoint.specs.Formed.{IsFormed};
-ghost use Rattle.pl_checkpoint.specs.Laws.{AreValued};
-ghost use Rattle.pl_checkpoint.specs.Read.{checkpoint_read, data_reading, json_of, reading_of, Tells, TellsAs, TellsFault};
-ghost use Rattle.pl_checkpoint.specs.ReadField.{members_in, optional, required};
+ghost use Rattle.pl_checkpoint_text.specs.Formed.{IsFormed};
+ghost use Rattle.pl_checkpoint_text.specs.Laws.{AreValued};
+ghost use Rattle.pl_checkpoint_text.specs.Read.{checkpoint_read, data_reading, json_of, reading_of, Tells, TellsAs, TellsFault};
+ghost use Rattle.pl_checkpoint_text.specs.ReadField.{members_in, optional, required};
 
 use crate::deployment::deployment_of;
-use crate::fault::ReadFault;
 use crate::kinds::{given, missing, required_text, wrong_kind};
-use crate::members::Members;
 use crate::path::field_path;
 use crate::version::check_version;
+use pl_checkpoint_text::{Members, ReadFault};
 use pl_state::{BadCheckpoint, Snapshot};
 use pl_value::Text;
 use serde_json::{Map, Value as Json};
@@ -28,7 +27,7 @@ pub fn read(alloc: Global, bytes: &[u8]) -> Result<Snapshot, ReadFault>
     read_bytes(alloc, bytes)
 }
 
-#[tactic(auto, unfolding(crate::specs::Read::reading_of))]
+#[tactic(auto, unfolding(pl_checkpoint_text::specs::Read::reading_of))]
 fn read_bytes(alloc: Global, bytes: &[u8]) -> Result<Snapshot, ReadFault>
     ensures { Tells (reading_of bytes.now) result }
 {
@@ -49,7 +48,7 @@ fn json_of(alloc: Global, bytes: &[u8]) -> Result<Json, ReadFault>
 }
 
 /// The state that the value tells.
-#[tactic(auto, unfolding(crate::specs::Read::checkpoint_read))]
+#[tactic(auto, unfolding(pl_checkpoint_text::specs::Read::checkpoint_read))]
 fn checkpoint_of(alloc: Global, value: &Json) -> Result<Snapshot, ReadFault>
     ensures { Tells (checkpoint_read (view value.now)) result }
 {
@@ -76,7 +75,7 @@ fn outermost_of<'a>(alloc: Global, value: &'a Json) -> Result<&'a Members, ReadF
 }
 
 /// An object that has to be there.
-#[tactic(auto, unfolding(crate::specs::ReadField::required))]
+#[tactic(auto, unfolding(pl_checkpoint_text::specs::ReadField::required))]
 fn required_members<'a>(
     alloc: Global,
     members: &'a Members,
@@ -97,7 +96,7 @@ fn required_members<'a>(
 }
 
 /// An object, where it is there.
-#[tactic(auto, unfolding(crate::specs::ReadField::optional))]
+#[tactic(auto, unfolding(pl_checkpoint_text::specs::ReadField::optional))]
 pub fn members_if_some<'a>(
     alloc: Global,
     members: &'a Members,

@@ -1,15 +1,14 @@
 ghost use Rattle.std.specs.Prelude.{◌≡◌};
 ghost use Rattle.serde_json.specs.View.{members_view};
-ghost use Rattle.pl_checkpoint.specs.Read.{Tells};
+ghost use Rattle.pl_checkpoint_text.specs.Read.{Tells};
 ghost use Rattle.pl_checkpoint.specs.ReadParts.{further_of, joined, last_of, linked_of, named_of, placed_of};
 
-use crate::fault::ReadFault;
 use crate::kept::entry_rest;
 use crate::kinds::{
     flag, nonempty, reference_if_some, required_urn, text_if_some, urn_if_some, values,
 };
 use crate::lists::{properties, texts, urns};
-use crate::members::Members;
+use pl_checkpoint_text::{Members, ReadFault};
 use pl_state::{Entry, KeyedUrns, ProviderRef, Urns};
 use pl_urn::Urn;
 use pl_value::{Fields, Text, Texts};

@@ -1,12 +1,11 @@
 ghost use Rattle.std.specs.Prelude.{◌≡◌, codes, IfOk};
-ghost use Rattle.pl_checkpoint.specs.Formed.{has_wholes, is_whole, items_have_wholes, members_have_wholes};
-ghost use Rattle.pl_checkpoint.specs.Read.{Tells, version_of, version_text};
+ghost use Rattle.pl_checkpoint_text.specs.Formed.{has_wholes, is_whole, items_have_wholes, members_have_wholes};
+ghost use Rattle.pl_checkpoint_text.specs.Read.{Tells, version_of, version_text};
 ghost use Rattle.serde_json.specs.Find.{get_member};
 ghost use Rattle.serde_json.specs.View.{items_view, members_view, number_view, view};
 
-use crate::fault::ReadFault;
 use crate::kinds::{member, missing};
-use crate::members::Members;
+use pl_checkpoint_text::{Members, ReadFault};
 use pl_state::BadCheckpoint;
 use pl_value::{OutOfMemory, Text};
 use serde_json::{Number, Value as Json};

@@ -1,7 +1,8 @@
 use Rattle.std.proofs.Common.{◌≡◌, ◌+◌, true, false, length, nat_lt, refl, sym, ap, ◌∙◌, rules}
 use Rattle.serde_json.proofs.Views.{items_len-items_view}
 use Rattle.serde_json.specs.View.{items_view}
-use Rattle.pl_checkpoint.specs.Read.{count_items, count_of, makes_one, most_resources, within_limit}
+use Rattle.pl_checkpoint_text.specs.Read.{count_items, count_of, makes_one, within_limit}
+use Rattle.pl_state.specs.Formed.{most_resources}
 use Rattle.pl_checkpoint.proofs.deployment.check_count.Goals as goal
 
 pub returns-then-count-gt-MOST_RESOURCES : goal.returns-then-count-gt-MOST_RESOURCES

@@ -2,9 +2,9 @@ use Rattle.std.proofs.Common.{◌≡◌, Ok, Err, codes, subst, sym, rules}
 use Rattle.pl_state.specs.declared.snapshot.Snapshot.{Snapshot}
 use Rattle.serde_json.specs.View.{items_view, members_view}
 use Rattle.pl_checkpoint.proofs.DeploymentRead.{AreParts, deployment_of-parts, deployment_of-stops}
-use Rattle.pl_checkpoint.specs.Read.{Tells, TellsFault, deployment_of}
-use Rattle.pl_checkpoint.specs.ReadEntry.{entry_in, pending_in}
-use Rattle.pl_checkpoint.specs.ReadField.{Reading, elements, field_path}
+use Rattle.pl_checkpoint_text.specs.Read.{Tells, TellsFault, deployment_of}
+use Rattle.pl_checkpoint_text.specs.ReadEntry.{entry_in, pending_in}
+use Rattle.pl_checkpoint_text.specs.ReadField.{Reading, elements, field_path}
 use Rattle.pl_checkpoint.proofs.deployment.deployment_of.Goals as goal
 
 pub returns-in_err-pending : goal.returns-in_err-pending

@@ -1,8 +1,8 @@
 use Rattle.std.proofs.Common.{◌≡◌, drop}
 use Rattle.serde_json.specs.View.{items_view}
 use Rattle.pl_checkpoint.proofs.Told.{after}
-use Rattle.pl_checkpoint.specs.ReadEntry.{entry_in}
-use Rattle.pl_checkpoint.specs.ReadField.{elements}
+use Rattle.pl_checkpoint_text.specs.ReadEntry.{entry_in}
+use Rattle.pl_checkpoint_text.specs.ReadField.{elements}
 use Rattle.pl_checkpoint.proofs.deployment.entries_of.Given as goal
 
 -- what is read of the whole is what was read of the first ones, and then the rest

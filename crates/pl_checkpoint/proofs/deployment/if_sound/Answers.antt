@@ -1,8 +1,8 @@
 use Rattle.std.proofs.Common.{◌≡◌, ap, subst, rules}
-use Rattle.pl_checkpoint.proofs.FirstUnsound.{first_unsound-none, first_unsound-some}
+use Rattle.pl_checkpoint_text.proofs.FirstUnsound.{first_unsound-none, first_unsound-some}
 use Rattle.pl_sound.specs.Sound.{IsFirstFault, TellsFault}
 use Rattle.pl_state.specs.declared.fault.UnsoundOrMemory.TheVariants.{Unsound}
-use Rattle.pl_checkpoint.specs.Read.{unless_unsound}
+use Rattle.pl_checkpoint_text.specs.Read.{unless_unsound}
 use Rattle.pl_checkpoint.proofs.deployment.if_sound.Goals as goal
 
 pub returns-in-Ok : goal.returns-in-Ok

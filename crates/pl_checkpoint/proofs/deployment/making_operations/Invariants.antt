@@ -1,6 +1,6 @@
 use Rattle.std.proofs.Common.{◌≡◌, ◌+◌, ◌≤◌, drop}
 use Rattle.serde_json.specs.View.{items_view}
-use Rattle.pl_checkpoint.specs.Read.{count_items, makes_one}
+use Rattle.pl_checkpoint_text.specs.Read.{count_items, makes_one}
 use Rattle.pl_checkpoint.proofs.deployment.making_operations.Given as goal
 
 -- those that were counted and those that are left are all

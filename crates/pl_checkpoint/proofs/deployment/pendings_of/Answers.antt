@@ -3,8 +3,8 @@ use Rattle.std.proofs.lemmas.List.{drop_more}
 use Rattle.serde_json.specs.View.{items_view, view}
 use Rattle.serde_json.specs.declared.value.Value.{Value}
 use Rattle.pl_checkpoint.proofs.Told.{after, elements-next}
-use Rattle.pl_checkpoint.specs.ReadEntry.{pending_in}
-use Rattle.pl_checkpoint.specs.ReadField.{element_path, elements}
+use Rattle.pl_checkpoint_text.specs.ReadEntry.{pending_in}
+use Rattle.pl_checkpoint_text.specs.ReadField.{element_path, elements}
 use Rattle.pl_checkpoint.proofs.deployment.pendings_of.Goals as goal
 
 pub loop-place-preserved : goal.loop-place-preserved

@@ -3,9 +3,9 @@ use Rattle.pl_state.specs.declared.entry.Entry.{Entry}
 use Rattle.serde_json.specs.Find.{as_object}
 use Rattle.serde_json.specs.View.{view, members_view}
 use Rattle.pl_checkpoint.proofs.EntryParts.{entry_of-parts}
-use Rattle.pl_checkpoint.specs.Read.{Tells}
-use Rattle.pl_checkpoint.specs.ReadEntry.{entry_in, entry_of}
-use Rattle.pl_checkpoint.specs.ReadField.{Reading, ◌>>=◌, of_kind}
+use Rattle.pl_checkpoint_text.specs.Read.{Tells}
+use Rattle.pl_checkpoint_text.specs.ReadEntry.{entry_in, entry_of}
+use Rattle.pl_checkpoint_text.specs.ReadField.{Reading, ◌>>=◌, of_kind}
 use Rattle.pl_checkpoint.specs.ReadParts.{entry_by_parts}
 use Rattle.pl_checkpoint.proofs.entry.entry_in.Goals as goal
 

@@ -4,9 +4,9 @@ use Rattle.pl_state.specs.declared.entry.Entry.{Entry}
 use Rattle.std.proofs.Common.{Result}
 use Rattle.serde_json.specs.View.{members_view}
 use Rattle.pl_checkpoint.proofs.Told.{stop}
-use Rattle.pl_checkpoint.specs.Read.{Tells, TellsFault}
+use Rattle.pl_checkpoint_text.specs.Read.{Tells, TellsFault}
 use Rattle.pl_checkpoint.specs.ReadParts.{entry_by_parts, last_of}
-use Rattle.pl_checkpoint.specs.declared.fault.ReadFault.{ReadFault}
+use Rattle.pl_checkpoint_text.specs.declared.fault.ReadFault.{ReadFault}
 use Rattle.pl_checkpoint.proofs.entry.entry_of.Goals as goal
 
 pub returns-in_err-last : goal.returns-in_err-last

@@ -1,6 +1,6 @@
 use Rattle.std.proofs.Common.{◌≡◌, ◌+◌, ◌*◌, drop}
 use Rattle.serde_json.specs.View.{items_view, members_view}
-use Rattle.pl_checkpoint.specs.ReadEntry.{items_fault, members_fault}
+use Rattle.pl_checkpoint_text.specs.ReadEntry.{items_fault, members_fault}
 use Rattle.pl_checkpoint.proofs.kept.+unread_fault.Given as goal
 
 -- a level below comes before each function at this one

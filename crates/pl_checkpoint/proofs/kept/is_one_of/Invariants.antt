@@ -1,5 +1,5 @@
 use Rattle.std.proofs.Common.{◌≡◌, ℕ, List, Bor, drop, map}
-use Rattle.pl_checkpoint.specs.Formed.{is_one_of}
+use Rattle.pl_checkpoint_text.specs.Formed.{is_one_of}
 use Rattle.pl_checkpoint.proofs.kept.is_one_of.Given as goal
 
 -- whether the key is one of all is whether it is one of those that are left

@@ -3,7 +3,7 @@ use Rattle.serde_json.proofs.Views.{Entry}
 use Rattle.serde_json.specs.Data.{put}
 use Rattle.serde_json.specs.View.{view, members_view}
 use Rattle.pl_checkpoint.proofs.Others.{Rise, other_members-own, other_members-other}
-use Rattle.pl_checkpoint.specs.Formed.{is_one_of}
+use Rattle.pl_checkpoint_text.specs.Formed.{is_one_of}
 use Rattle.pl_checkpoint.proofs.kept.other_members.Goals as goal
 
 pub loop-key-preserved-in_ok-put : goal.loop-key-preserved-in_ok-put

@@ -1,7 +1,7 @@
 use Rattle.std.proofs.Common.{◌≡◌, ℕ, List, ◌++◌, Bor, map}
 use Rattle.serde_json.proofs.Views.{Entry}
 use Rattle.serde_json.specs.View.{members_view}
-use Rattle.pl_checkpoint.specs.ReadEntry.{other_members}
+use Rattle.pl_checkpoint_text.specs.ReadEntry.{other_members}
 use Rattle.pl_checkpoint.proofs.kept.other_members.Given as goal
 
 -- of the first ones those that are not read were put in

@@ -4,7 +4,7 @@ use Rattle.serde_json.specs.Data.{object}
 use Rattle.serde_json.specs.View.{members_view}
 use Rattle.serde_json.specs.Written.{compact_text}
 use Rattle.pl_checkpoint.proofs.Others.{members-no_float}
-use Rattle.pl_checkpoint.specs.ReadEntry.{members_fault, unread_by, unread_of}
+use Rattle.pl_checkpoint_text.specs.ReadEntry.{members_fault, unread_by, unread_of}
 use Rattle.pl_checkpoint.proofs.kept.unread_of.Goals as goal
 
 pub returns : goal.returns

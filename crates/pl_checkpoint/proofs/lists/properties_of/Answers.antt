@@ -2,7 +2,7 @@ use Rattle.std.proofs.Common.{◌≡◌, [], ◌∷◌, ◌++◌, Some, Ok, stri
 use Rattle.serde_json.proofs.Views.{Entry}
 use Rattle.serde_json.specs.View.{view, members_view}
 use Rattle.pl_checkpoint.proofs.Told.{after, properties_of-next}
-use Rattle.pl_checkpoint.specs.ReadField.{field_path, or_default, properties_of, unless_null, urns_in}
+use Rattle.pl_checkpoint_text.specs.ReadField.{field_path, or_default, properties_of, unless_null, urns_in}
 use Rattle.pl_checkpoint.proofs.lists.properties_of.Goals as goal
 
 pub loop-key-preserved : goal.loop-key-preserved

@@ -1,7 +1,7 @@
 use Rattle.std.proofs.Common.{◌≡◌}
 use Rattle.serde_json.specs.View.{members_view}
 use Rattle.pl_checkpoint.proofs.Told.{after}
-use Rattle.pl_checkpoint.specs.ReadField.{properties_of}
+use Rattle.pl_checkpoint_text.specs.ReadField.{properties_of}
 use Rattle.pl_checkpoint.proofs.lists.properties_of.Given as goal
 
 -- what is read of the whole is what was read of the first ones, and then the rest

@@ -1,7 +1,7 @@
 use Rattle.std.proofs.Common.{◌≡◌, drop}
 use Rattle.serde_json.specs.View.{items_view}
 use Rattle.pl_checkpoint.proofs.Told.{after}
-use Rattle.pl_checkpoint.specs.ReadField.{elements, urn_in}
+use Rattle.pl_checkpoint_text.specs.ReadField.{elements, urn_in}
 use Rattle.pl_checkpoint.proofs.lists.urns_of.Given as goal
 
 -- what is read of the whole is what was read of the first ones, and then the rest

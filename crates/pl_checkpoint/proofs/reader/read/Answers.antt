@@ -1,11 +1,11 @@
 use Rattle.std.proofs.Common.{◌≡◌, ℕ, List, IfOk, IfErr, Result, Ok, Err}
 use Rattle.pl_state.specs.declared.snapshot.Snapshot.{Snapshot}
-use Rattle.pl_checkpoint.specs.Formed.{IsFormed}
-use Rattle.pl_checkpoint.specs.Laws.{AreValued}
-use Rattle.pl_checkpoint.specs.Read.{reading_of, Tells, TellsFault}
-use Rattle.pl_checkpoint.specs.ReadLaws.{IsReadable}
-use Rattle.pl_checkpoint.specs.declared.fault.ReadFault.{ReadFault}
-use Rattle.pl_checkpoint.proofs.ReadLawState.{read_is_readable}
+use Rattle.pl_checkpoint_text.specs.Formed.{IsFormed}
+use Rattle.pl_checkpoint_text.specs.Laws.{AreValued}
+use Rattle.pl_checkpoint_text.specs.Read.{reading_of, Tells, TellsFault}
+use Rattle.pl_checkpoint_text.specs.ReadLaws.{IsReadable}
+use Rattle.pl_checkpoint_text.specs.declared.fault.ReadFault.{ReadFault}
+use Rattle.pl_checkpoint_text.proofs.ReadLawState.{read_is_readable}
 use Rattle.pl_checkpoint.proofs.reader.read.Goals as goal
 
 what_is_read : (bytes : List ℕ) (answer : Result Snapshot ReadFault) → Tells (reading_of bytes) answer → IfOk answer (λ state. reading_of bytes ≡ Ok state)

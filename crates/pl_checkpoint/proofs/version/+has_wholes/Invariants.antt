@@ -1,6 +1,6 @@
 use Rattle.std.proofs.Common.{◌≡◌, drop}
 use Rattle.serde_json.specs.View.{items_view, members_view}
-use Rattle.pl_checkpoint.specs.Formed.{items_have_wholes, members_have_wholes}
+use Rattle.pl_checkpoint_text.specs.Formed.{items_have_wholes, members_have_wholes}
 use Rattle.pl_checkpoint.proofs.version.+has_wholes.Given as goal
 
 -- whether all have whole numbers is whether those that are left have

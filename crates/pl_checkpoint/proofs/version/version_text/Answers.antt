@@ -1,8 +1,8 @@
 use Rattle.std.proofs.Common.{◌≡◌, true, string_bytes, rules}
 use Rattle.serde_json.specs.View.{view}
 use Rattle.serde_json.specs.Written.{compact_text}
-use Rattle.pl_checkpoint.proofs.NoFloats.{wholes-no_float}
-use Rattle.pl_checkpoint.specs.Formed.{has_wholes}
+use Rattle.pl_checkpoint_text.proofs.NoFloats.{wholes-no_float}
+use Rattle.pl_checkpoint_text.specs.Formed.{has_wholes}
 use Rattle.pl_checkpoint.proofs.version.version_text.Goals as goal
 
 pub returns : goal.returns

@@ -1,5 +1,0 @@
-use Rattle.pl_checkpoint.proofs.TextTells as proof
-use Rattle.pl_checkpoint.proofs.laws.text_tells_state.Goals as goal
-
-pub returns : goal.returns
-returns c = proof.text_tells_state

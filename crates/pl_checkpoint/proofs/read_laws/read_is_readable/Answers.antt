@@ -1,5 +1,0 @@
-use Rattle.pl_checkpoint.proofs.ReadLawState as proof
-use Rattle.pl_checkpoint.proofs.read_laws.read_is_readable.Goals as goal
-
-pub returns : goal.returns
-returns c = proof.read_is_readable

@@ -1,5 +1,0 @@
-use Rattle.pl_checkpoint.proofs.ReadLawSpelled as proof
-use Rattle.pl_checkpoint.proofs.read_laws.spelled_is_read.Goals as goal
-
-pub returns : goal.returns
-returns c = proof.spelled_is_read

@@ -1,5 +1,0 @@
-use Rattle.pl_checkpoint.proofs.ReadLawText as proof
-use Rattle.pl_checkpoint.proofs.read_laws.text_is_read.Goals as goal
-
-pub returns : goal.returns
-returns c = proof.text_is_read

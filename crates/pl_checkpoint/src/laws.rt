@@ -1,6 +1,0 @@
-ghost use Rattle.pl_checkpoint.specs.Laws.{TextTellsState};
-
-/// The law that no two states have the same text. It is proved and does nothing.
-pub fn text_tells_state()
-    ensures { TextTellsState }
-{}
