@@ -1,4 +1,3 @@
 pub mod Fields
 pub mod Texts
-pub mod JsonTexts
 pub mod Numbers

@@ -8,7 +8,8 @@ use Rattle.pl_json.proofs.NoFloat.{has_float-spelled_members}
 use Rattle.pl_events.specs.declared.event.Answer.{Answer}
 use Rattle.pl_events.specs.declared.event.Answer.TheVariants.{Registered, Noted, Result, Refused}
 use Rattle.pl_events.specs.Halted.{halted}
-use Rattle.pl_host_msg.specs.Answer.{answer_data, answer_text, longest_body}
+use Rattle.pl_host_msg.specs.Answer.{answer_data, answer_text}
+use Rattle.pl_world.specs.declared.frames.TheConstants.{MAX_BODY}
 
 -- an answer holds no float
 pub has_float-answer_data : (n : ℕ) (answer : Answer) → has_float (answer_data n answer) ≡ false
@@ -36,5 +37,5 @@ unfolding answer_text serde_json_on_literals
 halted_text n = search rules
 
 -- the refusal of a request that came too late fits a frame
-pub halted_fits : (n : ℕ) → n < 2 ^ 64 → length (answer_text n halted) ≤ longest_body
+pub halted_fits : (n : ℕ) → n < 2 ^ 64 → length (answer_text n halted) ≤ MAX_BODY
 halted_fits n small = let digits = length-decimal-le 20 n (omega arith) (omega arith) small in rw halted_text (simp length-append (omega arith))

@@ -9,10 +9,6 @@ use Rattle.pl_events.specs.declared.event.Answer.TheVariants.{Registered, Noted,
 use Rattle.pl_host_msg.specs.declared.answer.MsgOut.{MsgOut}
 use Rattle.pl_host_msg.specs.declared.answer.MsgOut.TheVariants.{TooLong, OutOfMemory}
 
--- how many bytes the body of a frame may have
-abbrev pub longest_body : ℕ
-longest_body = MAX_BODY
-
 -- the object with these members, whose names rise
 abbrev pub object_of : List (List ℕ × Data) → Data
 object_of members = object (members_of members)

@@ -1,22 +1,10 @@
 -- What the fields of a message may hold. Each reader takes a field as it stands, which is `None` where
 -- it is absent or null.
 use Rattle.std.specs.Prelude.{ℕ, ◌^◌, ◌&&◌, ◌==◌, nat_eq, nat_le, not, length, List, codes, Bool, true, false, if◌then◌else◌, Option, Some, None, option_map, option_and_then, unwrap_or}
-use Rattle.std.specs.List.{starts_with}
-use Rattle.serde_json.specs.Data.{Data, null, boolean, number, string, array, object, Items, no_items, item, Members, no_members, member}
-use Rattle.serde_json.specs.Find.{get, as_bool, as_number, as_u64, as_str, as_array, as_object}
-
--- the value, unless it is null
-abbrev pub unless_null : Data → Option Data
-unless_null null = None
-unless_null (boolean b) = Some (boolean b)
-unless_null (number n) = Some (number n)
-unless_null (string s) = Some (string s)
-unless_null (array ds) = Some (array ds)
-unless_null (object ms) = Some (object ms)
-
--- what stands in the message's field of this name
-abbrev pub field : List ℕ → Data → Option Data
-field name message = option_and_then unless_null (get name message)
+use Rattle.pl_urn.specs.Grammar.{is_provider_type}
+use Rattle.serde_json.specs.Data.{Data, Items, no_items, item, Members, no_members, member}
+use Rattle.serde_json.specs.Find.{as_bool, as_str, as_array, as_object}
+use Rattle.pl_members.specs.Field.{text, whole}
 
 -- the value, where it passes the test
 abbrev pub if_passing : {A : Type 0} → (A → Bool) → A → Option A
@@ -24,21 +12,13 @@ if_passing test value = if test value then Some value else None
 
 -- ---- fields that have to be there: `None` where the message is none
 
--- a text of any content
-abbrev pub text : Option Data → Option (List ℕ)
-text = option_and_then as_str
-
--- a whole number that JSON spells without sign, point and exponent
-abbrev pub whole : Option Data → Option ℕ
-whole value = option_and_then as_u64 (option_and_then as_number value)
-
 -- the number of a request, from 1 to 2^53
 abbrev pub request_number : Option Data → Option ℕ
 request_number value = option_and_then (if_passing (λ n. nat_le 1 n && nat_le n (2 ^ 53))) (whole value)
 
 -- the type of a resource that is no provider
 abbrev pub plain_type : Option Data → Option (List ℕ)
-plain_type value = option_and_then (if_passing (λ kind. not (starts_with nat_eq kind (codes "pulumi:providers:")))) (text value)
+plain_type value = option_and_then (if_passing (λ kind. not (is_provider_type kind))) (text value)
 
 -- ---- fields that may be left out: `None` where the message is none
 

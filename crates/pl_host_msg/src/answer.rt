@@ -1,8 +1,10 @@
 ghost use Rattle.std.specs.Prelude.{◌≡◌, ◌<◌, ◌≤◌, IfErr, IfOk, length};
+ghost use Rattle.std.specs.Str.{IsUtf8};
 ghost use Rattle.serde_json.specs.Data.{object};
 ghost use Rattle.serde_json.specs.View.{members_view, view};
 ghost use Rattle.pl_events.specs.Halted.{halted};
-ghost use Rattle.pl_host_msg.specs.Answer.{answer_data, answer_text, IfTooLong, longest_body, ok_data};
+ghost use Rattle.pl_host_msg.specs.Answer.{answer_data, answer_text, IfTooLong, ok_data};
+ghost use Rattle.pl_world.specs.declared.frames.TheConstants.{MAX_BODY};
 
 use pl_events::Answer;
 use pl_json::spell_fields;
@@ -12,9 +14,6 @@ use pl_world::MAX_BODY;
 use serde_json::{Map, Value, json, put};
 use std::alloc::{AllocError, Global};
 use thiserror::Error;
-
-/// How many bytes the body of a frame may have.
-pub const LONGEST_BODY: usize = MAX_BODY;
 
 /// Why a message was not written.
 #[derive(Debug, Drop, Error)]
@@ -51,13 +50,14 @@ impl From<AllocError> for MsgOut {
 /// The bytes of the answer to request `n`.
 pub fn answer_bytes(alloc: Global, n: u64, answer: &Answer) -> Result<Bytes, MsgOut>
     ensures bytes { IfOk result (λ bytes. bytes ≡ answer_text n answer.now) }
-    ensures fits { IfOk result (λ bytes. length bytes ≤ longest_body) }
+    ensures utf8 { IfOk result IsUtf8 }
+    ensures fits { IfOk result (λ bytes. length bytes ≤ MAX_BODY) }
     ensures too_long { IfErr result (λ error. IfTooLong error
         (λ len. len ≡ length (answer_text n answer.now))) }
-    ensures over { IfErr result (λ error. IfTooLong error (λ len. longest_body < len)) }
+    ensures over { IfErr result (λ error. IfTooLong error (λ len. MAX_BODY < len)) }
 {
     let bytes = answer_value(alloc, n, answer)?.to_vec(alloc)?;
-    if bytes.len() > LONGEST_BODY {
+    if bytes.len() > MAX_BODY {
         return Err(MsgOut::TooLong(bytes.len() as u64));
     }
     Ok(Bytes::from_vec(bytes))
@@ -134,85 +134,8 @@ fn refused(alloc: Global, n: u64, error: &str) -> Result<Value, AllocError>
 /// The bytes of the answer to request `n` that the run no longer takes up. They always fit a frame.
 pub fn halted_bytes(alloc: Global, n: u64) -> Result<Bytes, OutOfMemory>
     ensures bytes { IfOk result (λ bytes. bytes ≡ answer_text n halted) }
-    ensures fits { IfOk result (λ bytes. length bytes ≤ longest_body) }
+    ensures fits { IfOk result (λ bytes. length bytes ≤ MAX_BODY) }
 {
     let value = refused(alloc, n, "halted")?;
     Ok(Bytes::from_vec(value.to_vec(alloc)?))
-}
-
-#[cfg(test)]
-mod tests {
-    use super::answer_bytes;
-    use pl_events::Answer;
-    use pl_value::{Fields, Text, Value, may_stand_under};
-    use std::alloc::Global;
-    use std::test::Fail;
-
-    fn is_written(alloc: Global, n: u64, answer: Answer, text: &str) -> Result<bool, Fail> {
-        let bytes = answer_bytes(alloc, n, &answer)?;
-        Ok(bytes.as_slice() == text.as_bytes())
-    }
-
-    /// The fields with the key `k`, whose value is true.
-    fn one_field(alloc: Global) -> Result<Fields, Fail> {
-        let mut fields = Fields::new(alloc);
-        let value = Value::Flag(true);
-        if value.is_value() && fields.is_below("k") && may_stand_under("k", &value) {
-            fields.push(Text::from_str(alloc, "k")?, value)?;
-        }
-        Ok(fields)
-    }
-
-    fn component_is_written(alloc: Global, n: u64, urn: &str, text: &str) -> Result<bool, Fail> {
-        let answer = Answer::Registered {
-            urn: pl_urn::parse(alloc, urn)?,
-            id: None,
-            outputs: Fields::new(alloc),
-        };
-        is_written(alloc, n, answer, text)
-    }
-
-    fn thing_is_written(alloc: Global, urn: &str, text: &str) -> Result<bool, Fail> {
-        let answer = Answer::Registered {
-            urn: pl_urn::parse(alloc, urn)?,
-            id: Some(Text::from_str(alloc, "a-1")?),
-            outputs: one_field(alloc)?,
-        };
-        is_written(alloc, 3, answer, text)
-    }
-
-    fn result_is_written(alloc: Global, text: &str) -> Result<bool, Fail> {
-        let answer = Answer::Result(one_field(alloc)?);
-        is_written(alloc, 5, answer, text)
-    }
-
-    #[test]
-    fn writes_that_a_request_is_registered(rt: HostRuntime) -> Result<(), Fail> {
-        for (n, urn, text) in [
-            (
-                1,
-                "urn:pulumi:dev::web::pulumi:pulumi:Stack::web-dev",
-                "{\"n\":1,\"ok\":{\"outputs\":{},\"urn\":\"urn:pulumi:dev::web::pulumi:pulumi:Stack::web-dev\"}}",
-            ),
-            (
-                2,
-                "urn:pulumi:dev::web::my:index:Site::s",
-                "{\"n\":2,\"ok\":{\"outputs\":{},\"urn\":\"urn:pulumi:dev::web::my:index:Site::s\"}}",
-            ),
-        ] {
-            assert!(rt; component_is_written(rt.alloc(), n, urn, text)?, "{n}");
-        }
-        Ok(())
-    }
-
-    #[test]
-    fn writes_results(rt: HostRuntime) -> Result<(), Fail> {
-        let alloc = rt.alloc();
-        let thing =
-            "{\"n\":3,\"ok\":{\"id\":\"a-1\",\"outputs\":{\"k\":true},\"urn\":\"urn:pulumi:dev::web::my:index:Thing::a\"}}";
-        assert!(rt; thing_is_written(alloc, "urn:pulumi:dev::web::my:index:Thing::a", thing)?);
-        assert!(rt; is_written(alloc, 4, Answer::Noted, "{\"n\":4,\"ok\":{}}")?);
-        assert!(rt; result_is_written(alloc, "{\"n\":5,\"ok\":{\"result\":{\"k\":true}}}")?);
-        Ok(())
-    }
 }

@@ -5,9 +5,7 @@
 mod answer;
 mod field;
 mod register;
-#[cfg(test)]
-mod tests;
 mod word;
 
-pub use answer::{LONGEST_BODY, MsgOut, answer_bytes, halted_bytes};
+pub use answer::{MsgOut, answer_bytes, halted_bytes};
 pub use word::{HostWord, MsgIn, request_of};

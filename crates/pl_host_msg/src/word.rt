@@ -1,11 +1,11 @@
 ghost use Rattle.std.specs.Prelude.{◌≡◌, Some, None, Err, IfOk};
 ghost use Rattle.serde_json.specs.View.{view};
-ghost use Rattle.pl_host_msg.specs.Word.{json_of, word_of, word_of_data};
+ghost use Rattle.pl_host_msg.specs.Word.{word_of, word_of_data};
 
 use crate::field::text;
 use crate::register::register_of;
 use pl_events::Request;
-use pl_value::OutOfMemory;
+use pl_members::{Unread, json_of};
 use serde_json::Value;
 use std::alloc::Global;
 use thiserror::Error;
@@ -28,60 +28,44 @@ pub enum MsgIn {
     OutOfMemory,
 }
 
-impl From<OutOfMemory> for MsgIn {
-    ghost use Rattle.std.specs.Prelude.{◌≡◌};
-    ghost use Rattle.pl_host_msg.specs.declared.word.MsgIn.TheVariants.{OutOfMemory};
-
-    ghost from_gives = { λ _ made. made ≡ OutOfMemory };
-
-    fn from(_error: OutOfMemory) -> MsgIn {
-        MsgIn::OutOfMemory
-    }
-}
-
 /// The word that the body of a frame spells.
-#[tactic(auto, unfolding(crate::specs::Word::word_of))]
 pub fn request_of(alloc: Global, bytes: &[u8]) -> Result<HostWord, MsgIn>
     ensures word { IfOk result (λ word. word_of bytes.now ≡ Some word) }
     ensures no_message { result ≡ Err MsgIn.NotAMessage → word_of bytes.now ≡ None }
+{
+    match word_of(alloc, bytes) {
+        Ok(word) => Ok(word),
+        Err(Unread::WrongForm) => Err(MsgIn::NotAMessage),
+        Err(Unread::OutOfMemory) => Err(MsgIn::OutOfMemory),
+    }
+}
+
+#[tactic(auto, unfolding(crate::specs::Word::word_of))]
+fn word_of(alloc: Global, bytes: &[u8]) -> Result<HostWord, Unread>
+    ensures word { IfOk result (λ word. word_of bytes.now ≡ Some word) }
+    ensures wrong_form { result ≡ Err Unread.WrongForm → word_of bytes.now ≡ None }
 {
     let message = json_of(alloc, bytes)?;
     word_of_data(alloc, &message)
 }
 
-fn json_of(alloc: Global, bytes: &[u8]) -> Result<Value, MsgIn>
-    ensures value { IfOk result (λ value. json_of bytes.now ≡ Some (view value)) }
-    ensures no_json { result ≡ Err MsgIn.NotAMessage → json_of bytes.now ≡ None }
-{
-    match Value::from_slice(alloc, bytes) {
-        Ok(message) => Ok(message),
-        Err(error) => {
-            if error.is_memory() {
-                Err(MsgIn::OutOfMemory)
-            } else {
-                Err(MsgIn::NotAMessage)
-            }
-        }
-    }
-}
-
 #[tactic(auto, unfolding(crate::specs::Word::word_of_data))]
-fn word_of_data(alloc: Global, message: &Value) -> Result<HostWord, MsgIn>
+fn word_of_data(alloc: Global, message: &Value) -> Result<HostWord, Unread>
     ensures word { IfOk result (λ word. word_of_data (view message.now) ≡ Some word) }
-    ensures no_message { result ≡ Err MsgIn.NotAMessage
+    ensures wrong_form { result ≡ Err Unread.WrongForm
         → word_of_data (view message.now) ≡ None }
 {
     let Some(call) = text(message, "call") else {
-        return Err(MsgIn::NotAMessage);
+        return Err(Unread::WrongForm);
     };
     if call == "done" {
         return Ok(HostWord::Success);
     }
     if call != "register" {
-        return Err(MsgIn::NotAMessage);
+        return Err(Unread::WrongForm);
     }
     let Some(told) = register_of(message) else {
-        return Err(MsgIn::NotAMessage);
+        return Err(Unread::WrongForm);
     };
     let request = told.copied(alloc)?;
     Ok(HostWord::Request(request))

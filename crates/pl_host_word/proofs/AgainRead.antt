@@ -6,15 +6,14 @@ use Rattle.pl_urn.specs.Grammar.{IsUrn}
 use Rattle.pl_events.specs.Requests.{is_request_number}
 use Rattle.pl_events.specs.declared.event.Answer.{Answer}
 use Rattle.pl_events.specs.declared.event.Answer.TheVariants.{Result, Refused}
-use Rattle.pl_provider_msg.specs.Field.{json_of, pairs, pairs_of, urn}
-use Rattle.pl_provider_msg.specs.Laws.{AreReadable}
-use Rattle.pl_provider_msg.proofs.HeldData.{Holds, json_of-holds}
-use Rattle.pl_provider_msg.proofs.Steps.{Gives, gives, gives_map, gives_next}
+use Rattle.pl_members.specs.Field.{json_of, pairs, pairs_of, request_number, text_if_there, urn}
+use Rattle.pl_members.specs.Readable.{AreReadable}
+use Rattle.pl_members.proofs.HeldData.{Holds, json_of-holds}
+use Rattle.pl_members.proofs.Steps.{Gives, gives, gives_map, gives_next}
 use Rattle.pl_host_word.specs.Answer.{answer_by, answer_in, answer_read, registered_of, success_by, success_of}
-use Rattle.pl_host_word.specs.Field.{request_number, text_if_there}
 use Rattle.pl_host_word.specs.Laws.{AnswersAreReadAgain, IsReadableAnswer}
 use Rattle.pl_host_word.proofs.AnswersBack.{answers_are_read}
-use Rattle.pl_host_word.proofs.KindsGood.{get-holds, number-good, pairs-good, pairs_of-good, urn-good}
+use Rattle.pl_members.proofs.KindsGood.{get-holds, number-good, pairs-good, pairs_of-good, urn-good}
 
 registered-good : (ok : Data) → Holds ok → Gives IsReadableAnswer (registered_of ok)
 unfolding registered_of

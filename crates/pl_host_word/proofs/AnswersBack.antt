@@ -1,5 +1,5 @@
 -- The answer to a request is read back from what is written for it.
-use Rattle.std.proofs.Common.{◌≡◌, ℕ, true, List, codes, cond, is_none, Option, Some, None, option_and_then, refl, ap, ◌∙◌, arith}
+use Rattle.std.proofs.Common.{◌≡◌, ℕ, true, List, codes, Option, Some, None, option_and_then, refl, ap, ◌∙◌, arith}
 use Rattle.serde_json.specs.Data.{Data, string, object, no_members, member}
 use Rattle.serde_json.specs.Read.{max_depth}
 use Rattle.pl_urn.specs.Grammar.{IsUrn}
@@ -7,20 +7,16 @@ use Rattle.pl_json.specs.Spelled.{spelled_fields}
 use Rattle.pl_events.specs.Requests.{is_request_number}
 use Rattle.pl_events.specs.declared.event.Answer.{Answer}
 use Rattle.pl_events.specs.declared.event.Answer.TheVariants.{Registered, Noted, Result, Refused}
-use Rattle.pl_provider_msg.specs.Field.{Pairs, if_urn}
-use Rattle.pl_provider_msg.specs.Laws.{AreReadable}
-use Rattle.pl_provider_msg.proofs.JsonTexts.{json_of_text}
-use Rattle.pl_provider_msg.proofs.Outlines.{IsRead, object-read, string-read, text-read, ticket-read}
-use Rattle.pl_provider_msg.proofs.ReadBack.{pairs-back, pairs-read-at}
+use Rattle.pl_members.specs.Field.{Pairs}
+use Rattle.pl_members.specs.Readable.{AreReadable}
+use Rattle.pl_members.proofs.JsonTexts.{json_of_text}
+use Rattle.pl_members.proofs.Outlines.{IsRead, object-read, string-read, text-read, ticket-read}
+use Rattle.pl_members.proofs.KindsBack.{number_small, numbered, pairs-back, pairs-read-at, urn-back}
 use Rattle.pl_host_msg.specs.Answer.{answer_data, answer_text, id_if_some, ok_data}
 use Rattle.pl_host_word.specs.Answer.{answer_in, answer_read, registered_of, success_of}
 use Rattle.pl_host_word.specs.Laws.{AnswersAreRead, IsReadableAnswer}
-use Rattle.pl_host_word.proofs.KindsBack.{number_small, numbered}
 
 -- ---- what was told is what was written
-
-urn-back : (name : List ℕ) → IsUrn name → if_urn name ≡ Some name
-urn-back name is = ap (λ fault. cond (is_none fault) (Some name) None) is
 
 registered-back : (name : List ℕ) (id : Option (List ℕ)) (outputs : Pairs) → IsUrn name → AreReadable outputs
     → success_of (object (id_if_some id (member (codes "outputs") (spelled_fields outputs) (member (codes "urn") (string name) no_members)))) ≡ Some (Registered name id outputs)

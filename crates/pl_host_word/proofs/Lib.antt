@@ -1,10 +1,6 @@
 pub mod AgainRead
 pub mod AnswersBack
-pub mod InPlace
-pub mod KeyedItems
-pub mod KindsBack
-pub mod KindsGood
-pub mod Shapes
+pub mod Parents
 pub mod Texts
 pub mod WordsBack
 pub mod WordsGood

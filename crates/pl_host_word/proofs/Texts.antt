@@ -1,98 +1,22 @@
 -- What is written for a word's value is the word's text, which is the body of a frame unless it is too long.
-use Rattle.std.proofs.Common.{◌≡◌, ◌≤◌, ℕ, Bool, true, false, ◌||◌, ◌++◌, List, [], ◌∷◌, length, map, Option, Some, None, IfOk, Ordering, Less, Equal, Greater, option_map, refl, sym, ap, subst, ◌∙◌, arith}
-use Rattle.std.proofs.lemmas.Bool.{or_parts}
-use Rattle.std.specs.Cmp.Lexicographic.{slice_cmp}
-use Rattle.std.specs.Ordering.{nat_cmp, match_ordering}
+use Rattle.std.proofs.Common.{◌≡◌, ◌≤◌, ℕ, false, List, length, Option, Some, None, IfOk, refl, sym, ap, subst, ◌∙◌, arith}
 use Rattle.std.specs.Prelude as told
-use Rattle.serde_json.specs.Data.{Data, boolean, string, Members, no_members, member, put}
-use Rattle.serde_json.specs.View.{items_of}
-use Rattle.serde_json.specs.Written.{compact_text, has_float, items_have_float, members_have_float}
+use Rattle.serde_json.specs.Data.{Data}
+use Rattle.serde_json.specs.Written.{compact_text, has_float}
 use Rattle.pl_world.specs.Frames.{IsBody}
 use Rattle.pl_world.specs.declared.frames.TheConstants.{MAX_BODY}
 use Rattle.pl_json.proofs.NoFloat.{has_float-spelled_members}
 use Rattle.pl_state.specs.declared.goal.Registration.{Registration}
 use Rattle.pl_events.specs.declared.event.Request.TheVariants as request
-use Rattle.pl_provider_msg.specs.Field.{Pairs}
+use Rattle.pl_members.specs.Field.{Pairs}
 use Rattle.pl_host_msg.specs.declared.answer.MsgOut.{MsgOut}
-use Rattle.pl_host_word.specs.Field.{Keyed}
-use Rattle.pl_host_word.specs.Spelled.{Field, early_fields, early_read_fields, flag_data, invoke_data, invoke_fields, keyed_data, keyed_field, late_fields, late_read_fields, list_data, object_with, outputs_data, pairs_data, put_if_some, read_data, read_fields, register_data, register_fields, text_data, told_data, unless_empty, with_fields, word_data, word_text}
+use Rattle.pl_members.proofs.NoFloats.{AreWhole, append-whole, flag-whole, flag_if_there-whole, keyed-whole, object-whole, pairs-whole, text-whole, texts-whole}
+use Rattle.pl_members.specs.Spelled.{Field, object_with}
+use Rattle.pl_host_word.specs.Spelled.{early_fields, early_read_fields, invoke_data, invoke_fields, late_fields, late_read_fields, outputs_data, read_data, read_fields, register_data, register_fields, told_data, word_data, word_text}
 use Rattle.pl_host_word.specs.declared.word.HostWord.{HostWord}
 use Rattle.pl_host_word.specs.declared.word.HostWord.TheVariants.{Request as Asks, Success, Error}
 
 -- ---- no word holds a float
-
-either_whole : (o : Ordering) (a b c : Members) → members_have_float a ≡ false → members_have_float b ≡ false → members_have_float c ≡ false → members_have_float (match_ordering o a b c) ≡ false
-either_whole Less a b c x y z = x
-either_whole Equal a b c x y z = y
-either_whole Greater a b c x y z = z
-
-or_from : (a b : Bool) → a ≡ false → b ≡ false → (a || b) ≡ false
-or_from a b x y = rw (x, y) refl
-
-put-whole : (name : List ℕ) (value : Data) (ms : Members) → has_float value ≡ false → members_have_float ms ≡ false → members_have_float (put name value ms) ≡ false
-put-whole name value no_members none all = or_from _ _ none refl
-put-whole name value (member first here more) none all =
-    let parts = or_parts (has_float here) (members_have_float more) all in
-    either_whole (slice_cmp nat_cmp name first) _ _ _
-    (or_from _ _ none all)
-    (or_from _ _ none parts.1)
-    (or_from _ _ parts.0 (put-whole name value more none parts.1))
-
-abbrev IsWhole : Option Data → Type 0
-IsWhole None = Unit {0}
-IsWhole (Some value) = has_float value ≡ false
-
-abbrev AreWhole : List Field → Type 0
-AreWhole [] = Unit {0}
-AreWhole (field ∷ more) = IsWhole field.1 × AreWhole more
-
-put_if_some-whole : (name : List ℕ) (value : Option Data) (ms : Members) → IsWhole value → members_have_float ms ≡ false → members_have_float (put_if_some name value ms) ≡ false
-put_if_some-whole name None ms none all = all
-put_if_some-whole name (Some value) ms none all = put-whole name value ms none all
-
-fields-whole : (fields : List Field) (ms : Members) → AreWhole fields → members_have_float ms ≡ false → members_have_float (with_fields fields ms) ≡ false
-fields-whole [] ms none all = all
-fields-whole (field ∷ more) ms none all = fields-whole more _ none.1 (put_if_some-whole field.0 field.1 ms none.0 all)
-
-object-whole : (fields : List Field) → AreWhole fields → has_float (object_with fields) ≡ false
-object-whole fields none = fields-whole fields no_members none refl
-
-append-whole : (early late : List Field) → AreWhole early → AreWhole late → AreWhole (early ++ late)
-append-whole [] late one two = two
-append-whole (field ∷ more) late one two = (one.0, append-whole more late one.1 two)
-
-flag-whole : (flag : Bool) → IsWhole (flag_data flag)
-flag-whole true = refl
-flag-whole false = tt
-
-flag_if_there-whole : (flag : Option Bool) → IsWhole (option_map boolean flag)
-flag_if_there-whole None = tt
-flag_if_there-whole (Some flag) = refl
-
-text-whole : (text : Option (List ℕ)) → IsWhole (text_data text)
-text-whole None = tt
-text-whole (Some text) = refl
-
-list-whole : {X : Type 0} (list : List X) (value : Data) → has_float value ≡ false → IsWhole (unless_empty list value)
-list-whole [] value none = tt
-list-whole (first ∷ more) value none = none
-
-items-whole : (texts : List (List ℕ)) → items_have_float (items_of (map string texts)) ≡ false
-items-whole [] = refl
-items-whole (text ∷ more) = items-whole more
-
-texts-whole : (texts : List (List ℕ)) → IsWhole (list_data texts)
-texts-whole texts = list-whole texts _ (items-whole texts)
-
-keyed_fields-whole : (pairs : Keyed) → AreWhole (map keyed_field pairs)
-keyed_fields-whole [] = tt
-keyed_fields-whole (pair ∷ more) = (items-whole pair.1, keyed_fields-whole more)
-
-keyed-whole : (pairs : Keyed) → IsWhole (keyed_data pairs)
-keyed-whole pairs = list-whole pairs _ (object-whole (map keyed_field pairs) (keyed_fields-whole pairs))
-
-pairs-whole : (fields : Pairs) → IsWhole (pairs_data fields)
-pairs-whole fields = list-whole fields _ (has_float-spelled_members fields)
 
 early-whole : (told : Registration) → AreWhole (early_fields told)
 early-whole told = (

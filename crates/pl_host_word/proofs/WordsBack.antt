@@ -1,24 +1,25 @@
 -- A word is read back from what is written for it.
-use Rattle.std.proofs.Common.{◌≡◌, ◌≢◌, ◌++◌, ◌&&◌, ℕ, true, not, List, [], ◌∷◌, codes, Option, Some, None, IfSome, option_map, option_and_then, refl, sym, ap, subst, ◌∙◌, arith}
+use Rattle.std.proofs.Common.{◌≡◌, ◌≢◌, ◌++◌, ◌&&◌, ℕ, true, false, not, List, [], ◌∷◌, codes, Option, Some, None, IfSome, option_map, option_and_then, refl, sym, ap, subst, ◌∙◌, arith}
 use Rattle.std.proofs.lemmas.Bool.{and_parts}
 use Rattle.serde_json.specs.Data.{Data, boolean, string}
 use Rattle.serde_json.specs.Find.{get}
 use Rattle.serde_json.specs.Read.{max_depth}
 use Rattle.pl_value.specs.Keys.{are_rising, keys_of}
-use Rattle.pl_state.specs.Component.{has_none}
+use Rattle.pl_lemmas.specs.Words.{has_none}
 use Rattle.pl_state.specs.Formed.{are_shallow}
 use Rattle.pl_state.specs.declared.goal.Registration.{Registration}
 use Rattle.pl_events.specs.Requests.{is_formed_registration, is_request_number, reads_custom}
 use Rattle.pl_events.specs.declared.event.Request.TheVariants as request
-use Rattle.pl_provider_msg.specs.Field.{Pairs, flag_or_false, nonempty_text, present, text, texts_or_none}
-use Rattle.pl_provider_msg.specs.Laws.{AreReadable}
-use Rattle.pl_provider_msg.proofs.JsonTexts.{json_of_text}
-use Rattle.pl_provider_msg.proofs.Outlines as outlines
-use Rattle.pl_provider_msg.proofs.Outlines.{IsRead, boolean-read, string-read}
-use Rattle.pl_provider_msg.proofs.ReadBack.{pairs-back, pairs-read-at}
-use Rattle.pl_host_word.specs.Field.{flag_if_there, keyed_or_none, pairs_or_none, parent_text, request_number, text_if_there}
+use Rattle.pl_members.specs.Field.{Pairs, flag_if_there, flag_or, keyed_or_none, nonempty_text, pairs_or_none, present, request_number, text, text_if_there, texts_or_none}
+use Rattle.pl_members.specs.Readable.{AreReadable}
+use Rattle.pl_members.proofs.JsonTexts.{json_of_text}
+use Rattle.pl_members.proofs.Outlines as outlines
+use Rattle.pl_members.proofs.Outlines.{IsRead, boolean-read, string-read}
+use Rattle.pl_members.proofs.KindsBack.{bool-back, flag-back, flag-read, flag_if_there-back, flag_if_there-read, keyed-back, keyed-read, nonempty-back, number-back, number-read, numbered, pairs-back, pairs-read, pairs-read-at, pairs_or_none-back, text-back, text-read, texts-back, texts-read, then_some}
+use Rattle.pl_host_word.specs.Parent.{parent_text}
 use Rattle.pl_host_word.specs.Laws.{IsReadableWord, IsTellable, WordsAreRead, as_reading}
-use Rattle.pl_host_word.specs.Spelled.{Field, call_data, early_fields, early_read_fields, flag_data, invoke_data, invoke_fields, keyed_data, late_fields, late_read_fields, list_data, object_with, one_text, outputs_data, outputs_fields, pairs_data, read_data, read_fields, register_data, register_fields, text_data, told_data, word_data, word_text}
+use Rattle.pl_members.specs.Spelled.{Field, flag_data, keyed_data, list_data, object_with, one_text, pairs_data, text_data}
+use Rattle.pl_host_word.specs.Spelled.{call_data, early_fields, early_read_fields, invoke_data, invoke_fields, late_fields, late_read_fields, outputs_data, outputs_fields, read_data, read_fields, register_data, register_fields, told_data, word_data, word_text}
 use Rattle.pl_host_word.specs.Word.{extras_of, flags_of, invoke_of, is_formed_word, links_of, names_of, outputs_of, read_of, register_of, word_in, word_read}
 use Rattle.pl_host_word.specs.declared.calls.HostCall.TheVariants as called
 use Rattle.pl_host_word.specs.declared.options.Extras.{Extras}
@@ -27,8 +28,8 @@ use Rattle.pl_host_word.specs.declared.resource.Links.{Links}
 use Rattle.pl_host_word.specs.declared.resource.Names.{Names}
 use Rattle.pl_host_word.specs.declared.word.HostWord.{HostWord}
 use Rattle.pl_host_word.specs.declared.word.HostWord.TheVariants.{Request as Asks, Success, Error}
-use Rattle.pl_host_word.proofs.KindsBack.{bool-back, flag-back, flag-read, flag_if_there-back, flag_if_there-read, keyed-back, keyed-read, nonempty-back, number-back, number-read, numbered, pairs-read, pairs_or_none-back, parent-back, text-back, text-read, texts-back, texts-read, then_some}
-use Rattle.pl_host_word.proofs.Shapes.{FieldsAreRead, get-object_with, object_with-read, over_none}
+use Rattle.pl_host_word.proofs.Parents.{parent-back}
+use Rattle.pl_members.proofs.Shapes.{FieldsAreRead, get-object_with, object_with-read, over_none}
 
 -- ---- the parts of a registration
 
@@ -81,9 +82,9 @@ flags-back : (message : Data) (told : Registration) → get (codes "custom") mes
     → flags_of message ≡ Some (flags_in told)
 unfolding flags_of
 flags-back message told custom protect retain first =
-    then_some (flag_or_false (present (codes "custom") message)) _ told.custom (bool-back (codes "custom") message told.custom custom)
-    ∙ then_some (flag_or_false (present (codes "protect") message)) _ told.protect (flag-back (codes "protect") message told.protect protect)
-    ∙ then_some (flag_or_false (present (codes "retainOnDelete") message)) _ told.retain_on_delete (flag-back (codes "retainOnDelete") message told.retain_on_delete retain)
+    then_some (flag_or false (present (codes "custom") message)) _ told.custom (bool-back (codes "custom") message told.custom custom)
+    ∙ then_some (flag_or false (present (codes "protect") message)) _ told.protect (flag-back (codes "protect") message told.protect protect)
+    ∙ then_some (flag_or false (present (codes "retainOnDelete") message)) _ told.retain_on_delete (flag-back (codes "retainOnDelete") message told.retain_on_delete retain)
     ∙ then_some (flag_if_there (present (codes "deleteBeforeReplace") message)) _ told.delete_before_replace
     (flag_if_there-back (codes "deleteBeforeReplace") message told.delete_before_replace first)
 

@@ -4,14 +4,14 @@ use Rattle.std.proofs.lemmas.Bool.{and_from}
 use Rattle.serde_json.specs.Data.{Data}
 use Rattle.serde_json.specs.Find.{get}
 use Rattle.pl_value.specs.Keys.{are_rising, keys_of}
-use Rattle.pl_state.specs.Component.{has_none}
+use Rattle.pl_lemmas.specs.Words.{has_none}
 use Rattle.pl_events.specs.Requests.{is_formed_request, is_request_number}
 use Rattle.pl_events.specs.declared.event.Request.{Request}
-use Rattle.pl_provider_msg.specs.Field.{json_of, nonempty_text, pairs, present, text, texts_or_none}
-use Rattle.pl_provider_msg.specs.Laws.{AreReadable}
-use Rattle.pl_provider_msg.proofs.HeldData.{Holds, json_of-holds}
-use Rattle.pl_provider_msg.proofs.Steps.{Gives, gives, gives_map, gives_next}
-use Rattle.pl_host_word.specs.Field.{Keyed, keyed_or_none, pairs_or_none, parent_text, request_number, text_if_there}
+use Rattle.pl_members.specs.Field.{Keyed, json_of, keyed_or_none, nonempty_text, pairs, pairs_or_none, present, request_number, text, text_if_there, texts_or_none}
+use Rattle.pl_members.specs.Readable.{AreReadable}
+use Rattle.pl_members.proofs.HeldData.{Holds, json_of-holds}
+use Rattle.pl_members.proofs.Steps.{Gives, gives, gives_map, gives_next}
+use Rattle.pl_host_word.specs.Parent.{parent_text}
 use Rattle.pl_host_word.specs.Laws.{IsReadableRequest, IsReadableWord, WordsAreReadAgain, WordsFit}
 use Rattle.pl_host_word.specs.Word.{extras_of, flags_of, invoke_of, is_formed_word, links_of, names_of, outputs_of, read_of, register_of, word_called, word_in, word_read}
 use Rattle.pl_host_word.specs.Words.{call_named}
@@ -21,7 +21,8 @@ use Rattle.pl_host_word.specs.declared.resource.Links.{Links}
 use Rattle.pl_host_word.specs.declared.resource.Names.{Names}
 use Rattle.pl_host_word.specs.declared.word.HostWord.{HostWord}
 use Rattle.pl_host_word.specs.declared.word.HostWord.TheVariants.{Request as Asks, Error}
-use Rattle.pl_host_word.proofs.KindsGood.{get-holds, keyed-good, nonempty-good, number-good, pairs-good, pairs_or_none-good, parent-good, present-holds}
+use Rattle.pl_members.proofs.KindsGood.{get-holds, keyed-good, nonempty-good, number-good, pairs-good, pairs_or_none-good, present-holds}
+use Rattle.pl_host_word.proofs.Parents.{parent-good}
 use Rattle.pl_host_word.proofs.WordsBack.{words_are_read}
 
 -- ---- what a registration and a reading have alike

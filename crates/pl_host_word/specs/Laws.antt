@@ -8,7 +8,7 @@ use Rattle.pl_events.specs.declared.event.Answer.{Answer}
 use Rattle.pl_events.specs.declared.event.Answer.TheVariants.{Registered, Noted, Result, Refused}
 use Rattle.pl_events.specs.declared.event.Request.{Request}
 use Rattle.pl_events.specs.declared.event.Request.TheVariants.{Register, Outputs, Invoke}
-use Rattle.pl_provider_msg.specs.Laws.{AreReadable}
+use Rattle.pl_members.specs.Readable.{AreReadable}
 use Rattle.pl_host_msg.specs.Answer.{answer_text}
 use Rattle.pl_host_word.specs.Answer.{answer_in}
 use Rattle.pl_host_word.specs.Spelled.{word_text}

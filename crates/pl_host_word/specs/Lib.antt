@@ -1,6 +1,6 @@
 pub mod Answer
-pub mod Field
 pub mod Laws
+pub mod Parent
 pub mod Spelled
 pub mod Word
 pub mod Words

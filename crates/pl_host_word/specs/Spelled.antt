@@ -1,83 +1,22 @@
 -- What a host says, as it is written. An object's members stand in rising order of their names.
-use Rattle.std.specs.Prelude.{ℕ, Bool, true, false, List, [], ◌∷◌, ◌++◌, map, codes, Option, Some, None, option_map}
-use Rattle.serde_json.specs.Data.{Data, boolean, number, unsigned, string, object, Members, no_members, put}
+use Rattle.std.specs.Prelude.{ℕ, List, [], ◌∷◌, ◌++◌, codes, Option, Some, None, option_map}
+use Rattle.serde_json.specs.Data.{Data, boolean, number}
 use Rattle.serde_json.specs.Written.{compact_text}
 use Rattle.pl_json.specs.Spelled.{spelled_fields}
 use Rattle.pl_state.specs.declared.goal.Registration.{Registration}
 use Rattle.pl_events.specs.declared.event.Request.{Request}
 use Rattle.pl_events.specs.declared.event.Request.TheVariants as request
-use Rattle.pl_provider_msg.specs.Field.{Pairs}
-use Rattle.pl_provider_msg.specs.Response.{texts_data}
-use Rattle.pl_host_word.specs.Field.{Keyed}
+use Rattle.pl_members.specs.Field.{Pairs}
+use Rattle.pl_members.specs.Spelled.{Field, object_with, one_text, number_data, flag_data, text_data, list_data, pairs_data, keyed_data}
 use Rattle.pl_host_word.specs.Words.{call_word}
 use Rattle.pl_host_word.specs.declared.calls.HostCall.{HostCall}
 use Rattle.pl_host_word.specs.declared.calls.HostCall.TheVariants as called
 use Rattle.pl_host_word.specs.declared.word.HostWord.{HostWord}
 use Rattle.pl_host_word.specs.declared.word.HostWord.TheVariants.{Request as Asks, Success, Error}
 
--- ---- objects with fields that may be left out
-
--- a name, and what is written under it, if anything is
-abbrev pub Field : Type 0
-Field = List ℕ × Option Data
-
--- the members with what is written under the name, in its place
-abbrev pub put_if_some : List ℕ → Option Data → Members → Members
-put_if_some name None ms = ms
-put_if_some name (Some value) ms = put name value ms
-
--- the members with each of the fields in its place
-abbrev pub with_fields : List Field → Members → Members
-with_fields [] ms = ms
-with_fields (field ∷ more) ms = with_fields more (put_if_some field.0 field.1 ms)
-
--- the object of the fields that are written
-abbrev pub object_with : List Field → Data
-object_with fields = object (with_fields fields no_members)
-
--- ---- what stands under one name
-
--- a text that is always written
-abbrev pub one_text : List ℕ → Option Data
-one_text text = Some (string text)
-
 -- the word of a call
 abbrev pub call_data : HostCall → Option Data
 call_data call = one_text (call_word call)
-
--- the number of a request
-abbrev pub number_data : ℕ → Option Data
-number_data n = Some (number (unsigned n))
-
--- a flag is written where it is set
-abbrev pub flag_data : Bool → Option Data
-flag_data false = None
-flag_data true = Some (boolean true)
-
--- a text is written where there is one
-abbrev pub text_data : Option (List ℕ) → Option Data
-text_data text = option_map string text
-
--- what belongs to a list is written where something is in the list
-abbrev pub unless_empty : {X : Type 0} → List X → Data → Option Data
-unless_empty [] value = None
-unless_empty (_ ∷ _) value = Some value
-
--- texts, as an array
-abbrev pub list_data : List (List ℕ) → Option Data
-list_data texts = unless_empty texts (texts_data texts)
-
--- fields of values, as an object
-abbrev pub pairs_data : Pairs → Option Data
-pairs_data fields = unless_empty fields (spelled_fields fields)
-
--- one list of texts under its key
-abbrev pub keyed_field : List ℕ × List (List ℕ) → Field
-keyed_field pair = (pair.0, Some (texts_data pair.1))
-
--- lists of texts by their keys, as an object
-abbrev pub keyed_data : Keyed → Option Data
-keyed_data pairs = unless_empty pairs (object_with (map keyed_field pairs))
 
 -- ---- registrations
 

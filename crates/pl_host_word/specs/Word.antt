@@ -6,8 +6,8 @@ use Rattle.pl_state.specs.declared.goal.Registration.{Registration}
 use Rattle.pl_events.specs.Requests.{is_formed_request}
 use Rattle.pl_events.specs.declared.event.Request.{Request}
 use Rattle.pl_events.specs.declared.event.Request.TheVariants as request
-use Rattle.pl_provider_msg.specs.Field.{◌>>=◌, flag_or_false, json_of, nonempty_text, pairs, present, text, texts_or_none}
-use Rattle.pl_host_word.specs.Field.{flag_if_there, keyed_or_none, pairs_or_none, parent_text, request_number, text_if_there}
+use Rattle.pl_members.specs.Field.{◌>>=◌, flag_if_there, flag_or, json_of, keyed_or_none, nonempty_text, pairs, pairs_or_none, present, request_number, text, text_if_there, texts_or_none}
+use Rattle.pl_host_word.specs.Parent.{parent_text}
 use Rattle.pl_host_word.specs.Words.{call_named}
 use Rattle.pl_host_word.specs.declared.calls.HostCall.{HostCall}
 use Rattle.pl_host_word.specs.declared.calls.HostCall.TheVariants as called
@@ -43,9 +43,9 @@ links_of message = do
 -- the options that are true or false
 unfoldable pub flags_of : Data → Option Flags
 flags_of message = do
-  custom ← flag_or_false (present (codes "custom") message)
-  protect ← flag_or_false (present (codes "protect") message)
-  retain ← flag_or_false (present (codes "retainOnDelete") message)
+  custom ← flag_or false (present (codes "custom") message)
+  protect ← flag_or false (present (codes "protect") message)
+  retain ← flag_or false (present (codes "retainOnDelete") message)
   first ← flag_if_there (present (codes "deleteBeforeReplace") message)
   Some (record { custom = custom; protect = protect; retain_on_delete = retain; delete_before_replace = first })
 

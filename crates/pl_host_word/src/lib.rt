@@ -4,14 +4,10 @@
 
 mod answered;
 mod calls;
-mod field;
 mod laws;
-mod lists;
 mod members;
 mod options;
 mod resource;
-#[cfg(test)]
-mod tests;
 mod word;
 mod wording;
 

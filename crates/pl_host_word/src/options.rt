@@ -2,9 +2,7 @@ ghost use Rattle.std.specs.Prelude.{◌≡◌, IfOk, Err, None, Some};
 ghost use Rattle.serde_json.specs.View.{view};
 ghost use Rattle.pl_host_word.specs.Word.{extras_of, flags_of};
 
-use crate::field::{flag_if_there, flag_or_false, present, text_if_there};
-use crate::lists::texts_or_none;
-use pl_host_msg::MsgIn;
+use pl_members::{Unread, flag_if_there, flag_or, present, text_if_there, texts_or_none};
 use pl_value::{Text, Texts};
 use serde_json::Value;
 use std::alloc::Global;
@@ -32,9 +30,9 @@ pub(crate) struct Extras {
 pub(crate) fn flags_of(message: &Value) -> Option<Flags>
     ensures { result ≡ flags_of (view message.now) }
 {
-    let custom = flag_or_false(message, "custom")?;
-    let protect = flag_or_false(message, "protect")?;
-    let retain_on_delete = flag_or_false(message, "retainOnDelete")?;
+    let custom = flag_or(message, "custom", false)?;
+    let protect = flag_or(message, "protect", false)?;
+    let retain_on_delete = flag_or(message, "retainOnDelete", false)?;
     let delete_before_replace = flag_if_there(message, "deleteBeforeReplace")?;
     Some(Flags {
         custom,
@@ -45,9 +43,9 @@ pub(crate) fn flags_of(message: &Value) -> Option<Flags>
 }
 
 #[tactic(auto, unfolding(crate::specs::Word::extras_of))]
-pub(crate) fn extras_of(alloc: Global, message: &Value) -> Result<Extras, MsgIn>
+pub(crate) fn extras_of(alloc: Global, message: &Value) -> Result<Extras, Unread>
     ensures told { IfOk result (λ told. extras_of (view message.now) ≡ Some told) }
-    ensures no_message { result ≡ Err MsgIn.NotAMessage → extras_of (view message.now) ≡ None }
+    ensures wrong_form { result ≡ Err Unread.WrongForm → extras_of (view message.now) ≡ None }
 {
     let aliases = texts_or_none(alloc, message, "aliases")?;
     let ignore_changes = texts_or_none(alloc, message, "ignoreChanges")?;

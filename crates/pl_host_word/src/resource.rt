@@ -1,10 +1,11 @@
-ghost use Rattle.std.specs.Prelude.{◌≡◌, IfOk, Err, None, Some};
+ghost use Rattle.std.specs.Prelude.{◌≡◌, IfOk, Err, None, Some, option_map};
 ghost use Rattle.serde_json.specs.View.{view};
+ghost use Rattle.pl_host_word.specs.Parent.{parent_text};
 ghost use Rattle.pl_host_word.specs.Word.{links_of, names_of};
 
-use crate::field::{pairs_or_none, parent_text, present, text, text_if_there};
-use crate::lists::{keyed_or_none, texts_or_none};
-use pl_host_msg::MsgIn;
+use pl_members::{
+    Unread, keyed_or_none, pairs_or_none, present, text, text_if_there, texts_or_none,
+};
 use pl_state::KeyedTexts;
 use pl_value::{Fields, Text, Texts};
 use serde_json::Value;
@@ -29,9 +30,9 @@ pub(crate) struct Links {
 }
 
 #[tactic(auto, unfolding(crate::specs::Word::names_of))]
-pub(crate) fn names_of(alloc: Global, message: &Value) -> Result<Names, MsgIn>
+pub(crate) fn names_of(alloc: Global, message: &Value) -> Result<Names, Unread>
     ensures told { IfOk result (λ told. names_of (view message.now) ≡ Some told) }
-    ensures no_message { result ≡ Err MsgIn.NotAMessage → names_of (view message.now) ≡ None }
+    ensures wrong_form { result ≡ Err Unread.WrongForm → names_of (view message.now) ≡ None }
 {
     let kind = text(alloc, message, "type")?;
     let name = text(alloc, message, "name")?;
@@ -48,9 +49,9 @@ pub(crate) fn names_of(alloc: Global, message: &Value) -> Result<Names, MsgIn>
 }
 
 #[tactic(auto, unfolding(crate::specs::Word::links_of))]
-pub(crate) fn links_of(alloc: Global, message: &Value) -> Result<Links, MsgIn>
+pub(crate) fn links_of(alloc: Global, message: &Value) -> Result<Links, Unread>
     ensures told { IfOk result (λ told. links_of (view message.now) ≡ Some told) }
-    ensures no_message { result ≡ Err MsgIn.NotAMessage → links_of (view message.now) ≡ None }
+    ensures wrong_form { result ≡ Err Unread.WrongForm → links_of (view message.now) ≡ None }
 {
     let inputs = pairs_or_none(alloc, message, "inputs")?;
     let dependencies = texts_or_none(alloc, message, "dependencies")?;
@@ -60,4 +61,23 @@ pub(crate) fn links_of(alloc: Global, message: &Value) -> Result<Links, MsgIn>
         dependencies,
         property_dependencies,
     })
+}
+
+/// The text of the parent; the empty one counts as none.
+fn parent_text(alloc: Global, value: Option<&Value>) -> Result<Option<Text>, Unread>
+    ensures read { IfOk result (λ made. parent_text (option_map (λ v. view v.now) value.entry) ≡ Some made) }
+    ensures wrong_form { result ≡ Err Unread.WrongForm
+        → parent_text (option_map (λ v. view v.now) value.entry) ≡ None }
+{
+    let Some(value) = value else {
+        return Ok(None);
+    };
+    let Some(found) = value.as_str() else {
+        return Err(Unread::WrongForm);
+    };
+    if found.is_empty() {
+        return Ok(None);
+    }
+    let made = Text::from_str(alloc, found)?;
+    Ok(Some(made))
 }

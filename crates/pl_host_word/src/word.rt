@@ -1,16 +1,16 @@
-ghost use Rattle.std.specs.Prelude.{◌≡◌, Err, IfOk, None, OnOk, Some, true};
+ghost use Rattle.std.specs.Prelude.{◌≡◌, Err, IfOk, None, Some, true};
 ghost use Rattle.serde_json.specs.View.{view};
 ghost use Rattle.pl_host_word.specs.Word.{failed_of, invoke_of, is_formed_word, outputs_of, read_of, reading, register_of, registered, word_called, word_in, word_read};
 
 use crate::calls::{HostCall, call_named};
-use crate::field::{
-    json_of, nonempty_text, pairs, pairs_or_none, present, request_number, str_in, text,
-    text_if_there,
-};
 use crate::options::{Extras, Flags, extras_of, flags_of};
 use crate::resource::{Links, Names, links_of, names_of};
 use pl_events::Request;
 use pl_host_msg::MsgIn;
+use pl_members::{
+    Unread, json_of, nonempty_text, pairs, pairs_or_none, present, request_number, str_in, text,
+    text_if_there,
+};
 use pl_state::Registration;
 use pl_value::{Text, Texts};
 use serde_json::Value;
@@ -27,33 +27,44 @@ pub enum HostWord {
 }
 
 /// The word that the body of a frame spells. `NotAMessage` comes where it spells none.
-#[tactic(auto, unfolding(crate::specs::Word::word_in))]
 pub fn word_of(alloc: Global, bytes: &[u8]) -> Result<HostWord, MsgIn>
     ensures word { IfOk result (λ word. word_in bytes.now ≡ Some word) }
     ensures no_message { result ≡ Err MsgIn.NotAMessage → word_in bytes.now ≡ None }
     ensures formed { IfOk result (λ word. is_formed_word word ≡ true) }
+{
+    match word_in(alloc, bytes) {
+        Ok(word) => Ok(word),
+        Err(Unread::WrongForm) => Err(MsgIn::NotAMessage),
+        Err(Unread::OutOfMemory) => Err(MsgIn::OutOfMemory),
+    }
+}
+
+#[tactic(auto, unfolding(crate::specs::Word::word_in))]
+fn word_in(alloc: Global, bytes: &[u8]) -> Result<HostWord, Unread>
+    ensures word { IfOk result (λ word. word_in bytes.now ≡ Some word) }
+    ensures wrong_form { result ≡ Err Unread.WrongForm → word_in bytes.now ≡ None }
 {
     let message = json_of(alloc, bytes)?;
     word_read(alloc, &message)
 }
 
 #[tactic(auto, unfolding(crate::specs::Word::word_read))]
-fn word_read(alloc: Global, message: &Value) -> Result<HostWord, MsgIn>
+fn word_read(alloc: Global, message: &Value) -> Result<HostWord, Unread>
     ensures word { IfOk result (λ word. word_read (view message.now) ≡ Some word) }
-    ensures no_message { result ≡ Err MsgIn.NotAMessage → word_read (view message.now) ≡ None }
+    ensures wrong_form { result ≡ Err Unread.WrongForm → word_read (view message.now) ≡ None }
 {
     let Some(word) = str_in(message, "call") else {
-        return Err(MsgIn::NotAMessage);
+        return Err(Unread::WrongForm);
     };
     let Some(call) = call_named(word) else {
-        return Err(MsgIn::NotAMessage);
+        return Err(Unread::WrongForm);
     };
     word_called(alloc, call, message)
 }
 
-fn word_called(alloc: Global, call: HostCall, message: &Value) -> Result<HostWord, MsgIn>
+fn word_called(alloc: Global, call: HostCall, message: &Value) -> Result<HostWord, Unread>
     ensures word { IfOk result (λ word. word_called call (view message.now) ≡ Some word) }
-    ensures no_message { result ≡ Err MsgIn.NotAMessage → word_called call (view message.now) ≡ None }
+    ensures wrong_form { result ≡ Err Unread.WrongForm → word_called call (view message.now) ≡ None }
 {
     match call {
         HostCall::Register => Ok(HostWord::Request(register_of(alloc, message)?)),
@@ -66,17 +77,17 @@ fn word_called(alloc: Global, call: HostCall, message: &Value) -> Result<HostWor
 }
 
 #[tactic(auto, unfolding(crate::specs::Word::register_of))]
-fn register_of(alloc: Global, message: &Value) -> Result<Request, MsgIn>
+fn register_of(alloc: Global, message: &Value) -> Result<Request, Unread>
     ensures request { IfOk result (λ request. register_of (view message.now) ≡ Some request) }
-    ensures no_message { result ≡ Err MsgIn.NotAMessage → register_of (view message.now) ≡ None }
+    ensures wrong_form { result ≡ Err Unread.WrongForm → register_of (view message.now) ≡ None }
 {
     let Some(n) = request_number(message, "n") else {
-        return Err(MsgIn::NotAMessage);
+        return Err(Unread::WrongForm);
     };
     let names = names_of(alloc, message)?;
     let links = links_of(alloc, message)?;
     let Some(flags) = flags_of(message) else {
-        return Err(MsgIn::NotAMessage);
+        return Err(Unread::WrongForm);
     };
     let extras = extras_of(alloc, message)?;
     let told = registered(names, links, flags, extras);
@@ -84,12 +95,12 @@ fn register_of(alloc: Global, message: &Value) -> Result<Request, MsgIn>
 }
 
 #[tactic(auto, unfolding(crate::specs::Word::read_of))]
-fn read_of(alloc: Global, message: &Value) -> Result<Request, MsgIn>
+fn read_of(alloc: Global, message: &Value) -> Result<Request, Unread>
     ensures request { IfOk result (λ request. read_of (view message.now) ≡ Some request) }
-    ensures no_message { result ≡ Err MsgIn.NotAMessage → read_of (view message.now) ≡ None }
+    ensures wrong_form { result ≡ Err Unread.WrongForm → read_of (view message.now) ≡ None }
 {
     let Some(n) = request_number(message, "n") else {
-        return Err(MsgIn::NotAMessage);
+        return Err(Unread::WrongForm);
     };
     let names = names_of(alloc, message)?;
     let id = nonempty_text(alloc, message, "id")?;
@@ -99,12 +110,12 @@ fn read_of(alloc: Global, message: &Value) -> Result<Request, MsgIn>
 }
 
 #[tactic(auto, unfolding(crate::specs::Word::outputs_of))]
-fn outputs_of(alloc: Global, message: &Value) -> Result<Request, MsgIn>
+fn outputs_of(alloc: Global, message: &Value) -> Result<Request, Unread>
     ensures request { IfOk result (λ request. outputs_of (view message.now) ≡ Some request) }
-    ensures no_message { result ≡ Err MsgIn.NotAMessage → outputs_of (view message.now) ≡ None }
+    ensures wrong_form { result ≡ Err Unread.WrongForm → outputs_of (view message.now) ≡ None }
 {
     let Some(n) = request_number(message, "n") else {
-        return Err(MsgIn::NotAMessage);
+        return Err(Unread::WrongForm);
     };
     let urn = text(alloc, message, "urn")?;
     let outputs = pairs(alloc, message, "outputs")?;
@@ -112,12 +123,12 @@ fn outputs_of(alloc: Global, message: &Value) -> Result<Request, MsgIn>
 }
 
 #[tactic(auto, unfolding(crate::specs::Word::invoke_of))]
-fn invoke_of(alloc: Global, message: &Value) -> Result<Request, MsgIn>
+fn invoke_of(alloc: Global, message: &Value) -> Result<Request, Unread>
     ensures request { IfOk result (λ request. invoke_of (view message.now) ≡ Some request) }
-    ensures no_message { result ≡ Err MsgIn.NotAMessage → invoke_of (view message.now) ≡ None }
+    ensures wrong_form { result ≡ Err Unread.WrongForm → invoke_of (view message.now) ≡ None }
 {
     let Some(n) = request_number(message, "n") else {
-        return Err(MsgIn::NotAMessage);
+        return Err(Unread::WrongForm);
     };
     let token = text(alloc, message, "token")?;
     let args = pairs_or_none(alloc, message, "args")?;
@@ -132,9 +143,9 @@ fn invoke_of(alloc: Global, message: &Value) -> Result<Request, MsgIn>
     })
 }
 
-fn failed_of(alloc: Global, message: &Value) -> Result<HostWord, MsgIn>
+fn failed_of(alloc: Global, message: &Value) -> Result<HostWord, Unread>
     ensures word { IfOk result (λ word. failed_of (view message.now) ≡ Some word) }
-    ensures no_message { result ≡ Err MsgIn.NotAMessage → failed_of (view message.now) ≡ None }
+    ensures wrong_form { result ≡ Err Unread.WrongForm → failed_of (view message.now) ≡ None }
 {
     let text = text(alloc, message, "text")?;
     Ok(HostWord::Error(text))

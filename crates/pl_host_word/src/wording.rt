@@ -4,16 +4,18 @@ ghost use Rattle.serde_json.specs.View.{members_view, view};
 ghost use Rattle.pl_world.specs.Frames.{IsBody};
 ghost use Rattle.pl_world.specs.declared.frames.TheConstants.{MAX_BODY};
 ghost use Rattle.pl_host_msg.specs.Answer.{IfTooLong};
-ghost use Rattle.pl_host_word.specs.Spelled.{done_data, early_fields, early_read_fields, failed_data, invoke_data, late_fields, late_read_fields, outputs_data, read_data, register_data, request_data, told_data, with_fields, word_data, word_text};
+ghost use Rattle.pl_host_word.specs.Spelled.{done_data, early_fields, early_read_fields, failed_data, invoke_data, late_fields, late_read_fields, outputs_data, read_data, register_data, request_data, told_data, word_data, word_text};
+ghost use Rattle.pl_members.specs.Spelled.{with_fields};
 
 use crate::calls::HostCall;
-use crate::members::{
-    Members, put_bool, put_call, put_flag, put_flag_if_some, put_keyed, put_number, put_object,
-    put_pairs, put_text, put_text_if_some, put_texts,
-};
+use crate::members::{put_call, put_number};
 use crate::word::HostWord;
 use pl_events::Request;
 use pl_host_msg::MsgOut;
+use pl_members::{
+    Members, put_bool, put_fields, put_flag, put_flag_if_some, put_keyed, put_pairs, put_text,
+    put_text_if_some, put_texts,
+};
 use pl_state::Registration;
 use pl_value::{Bytes, Fields, OutOfMemory, Text};
 use pl_world::MAX_BODY;
@@ -190,7 +192,7 @@ fn outputs_value(alloc: Global, n: u64, urn: &Text, outputs: &Fields) -> Result<
     let mut members = Map::new(alloc);
     put_call(alloc, &mut members, HostCall::Outputs)?;
     put_number(alloc, &mut members, n)?;
-    put_object(alloc, &mut members, "outputs", outputs)?;
+    put_fields(alloc, &mut members, "outputs", outputs)?;
     put_text(alloc, &mut members, "urn", urn.as_str())?;
     Ok(Value::Object(members))
 }

@@ -1,5 +1,5 @@
 -- The names in a value, and what it is filled with, one equation for each variant.
-use Rattle.std.proofs.Common.{◌≡◌, ℕ, ℤ, ◌-◌, Bool, List, map, Ok, refl, sym, ap, ◌∙◌}
+use Rattle.std.proofs.Common.{◌≡◌, ℕ, ◌-◌, Bool, List, map, Ok, refl, sym, ap, ◌∙◌}
 use Rattle.std.proofs.lemmas.List.Folds.{flat_map-map}
 use Rattle.pl_value.proofs.Levels.{map-map}
 use Rattle.pl_value.specs.declared.value.Value.{Value}
@@ -7,14 +7,11 @@ use Rattle.pl_value.specs.declared.value.Value.TheOpen.{Value-F}
 use Rattle.pl_value.specs.declared.value.Value.TheVariants as value
 use Rattle.pl_value.specs.declared.value.Value.TheFolds.{fold-roll-Value}
 use Rattle.pl_program_file.specs.Filled.{Filling, filled, filled_level, filled_members, filled_text, filled_values, in_order, inside, made_of, under}
-use Rattle.pl_program_file.specs.Names.{Name, name_in, names_in, names_in_fields, names_in_values, names_level}
+use Rattle.pl_program_file.specs.Names.{Name, names_in, names_in_fields, names_in_values, names_level}
 use Rattle.pl_program_file.specs.declared.filling.Place.{Place}
 use Rattle.pl_program_file.specs.declared.known.Known.{Known}
 
 -- ---- names
-
-pub names_in-Text : (text : List ℕ) → names_in (value.Text text) ≡ name_in text
-names_in-Text text = ap names_in (sym (value.rolls-Text text)) ∙ fold-roll-Value (List Name) names_level (Value-F.Text text)
 
 pub names_in-List : (values : List Value) → names_in (value.List values) ≡ names_in_values values
 names_in-List values =
@@ -29,21 +26,6 @@ names_in-Object fields =
 -- ---- filling
 
 module _ (known : List Known) (preview : Bool) where
-  pub filled-Null : (place : Place) → filled known preview value.Null place ≡ Ok value.Null
-  filled-Null place =
-      ap (λ one. filled known preview one place) (sym value.rolls-Null)
-      ∙ ap (λ (one : Place → Filling). one place) (fold-roll-Value (Place → Filling) (filled_level known preview) Value-F.Null)
-
-  pub filled-Flag : (flag : Bool) (place : Place) → filled known preview (value.Flag flag) place ≡ Ok (value.Flag flag)
-  filled-Flag flag place =
-      ap (λ one. filled known preview one place) (sym (value.rolls-Flag flag))
-      ∙ ap (λ (one : Place → Filling). one place) (fold-roll-Value (Place → Filling) (filled_level known preview) (Value-F.Flag flag))
-
-  pub filled-Whole : (number : ℤ) (place : Place) → filled known preview (value.Whole number) place ≡ Ok (value.Whole number)
-  filled-Whole number place =
-      ap (λ one. filled known preview one place) (sym (value.rolls-Whole number))
-      ∙ ap (λ (one : Place → Filling). one place) (fold-roll-Value (Place → Filling) (filled_level known preview) (Value-F.Whole number))
-
   pub filled-Text : (text : List ℕ) (place : Place) → filled known preview (value.Text text) place ≡ filled_text known preview text place
   filled-Text text place =
       ap (λ one. filled known preview one place) (sym (value.rolls-Text text))

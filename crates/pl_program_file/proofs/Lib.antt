@@ -1,4 +1,3 @@
-pub mod JsonTexts
 pub mod KeptValues
 pub mod Levels
 pub mod OneByOne

@@ -1,5 +1,5 @@
 -- What is read or filled of elements one after another.
-use Rattle.std.proofs.Common.{◌≡◌, ℕ, ◌+◌, ◌<◌, Bool, List, [], ◌∷◌, ◌++◌, take, drop, length, get_or, map, Option, None, Some, option_map, Result, Ok, Err, refl, sym, ap, ◌∙◌, append_assoc, add-one}
+use Rattle.std.proofs.Common.{◌≡◌, ℕ, ◌+◌, ◌<◌, Bool, List, [], ◌∷◌, ◌++◌, take, drop, length, get_or, Option, Some, Result, Ok, Err, refl, sym, ap, ◌∙◌, append_assoc, add-one}
 use Rattle.std.proofs.lemmas.List.{map-append, take_more}
 use Rattle.std.proofs.Math.Seq.{drop-cons}
 use Rattle.pl_value.proofs.FieldParts.{Pairs}
@@ -8,20 +8,12 @@ use Rattle.pl_value.specs.declared.value.Value.{Value}
 use Rattle.serde_json.specs.Data.{Data}
 use Rattle.serde_json.specs.View.{view, items_view}
 use Rattle.serde_json.specs.declared.value.Value as json
-use Rattle.pl_program_file.specs.Field.{each_item}
-use Rattle.pl_program_file.specs.Field as field
-use Rattle.pl_program_file.specs.Filled.{before, filled, filled_member, filled_members, filled_values, made_of, under}
+use Rattle.pl_members.specs.Field.{each_item}
+use Rattle.pl_members.specs.Field as field
+use Rattle.pl_members.proofs.Items.{after, after-next}
+use Rattle.pl_program_file.specs.Filled.{before, filled, filled_members, filled_values, made_of, under}
 use Rattle.pl_program_file.specs.declared.fault.Unfilled.{Unfilled}
-use Rattle.pl_program_file.specs.declared.filling.Place.{Place}
 use Rattle.pl_program_file.specs.declared.known.Known.{Known}
-
--- these, and then what is read of the others
-abbrev pub after : {X : Type 0} → List X → Option (List X) → Option (List X)
-after made others = option_map (λ more. made ++ more) others
-
-after-before : {X : Type 0} (made : List X) (one : X) (others : Option (List X)) → after made (field.before (Some one) others) ≡ after (made ++ one ∷ []) others
-after-before made one (Some more) = ap Some (sym (append_assoc made (one ∷ []) more))
-after-before made one None = refl
 
 -- one more element is read
 pub read_next : {X : Type 0} (read : Data → Option X) (items : List json.Value) (i : ℕ) (d : json.Value) (made : List X) (one : X) → i < length items
@@ -31,7 +23,7 @@ read_next read items i d made one here is =
     let next : drop i items ≡ get_or items i d ∷ drop (i + 1) items = rw (add-one, drop-cons items i d) in
     ap (λ left. after made (each_item read (items_view left))) next
     ∙ ap (λ told. after made (field.before told (each_item read (items_view (drop (i + 1) items))))) is
-    ∙ after-before made one (each_item read (items_view (drop (i + 1) items)))
+    ∙ after-next made one (each_item read (items_view (drop (i + 1) items)))
 
 -- these, and then what the others are filled with
 abbrev pub and_then : {X : Type 0} → List X → Result (List X) Unfilled → Result (List X) Unfilled
@@ -41,29 +33,10 @@ and_then-before : {X : Type 0} (made : List X) (one : X) (others : Result (List 
 and_then-before made one (Ok more) = ap Ok (sym (append_assoc made (one ∷ []) more))
 and_then-before made one (Err why) = refl
 
-next_values : (values : List Value) (i : ℕ) (d : Value) → i < length values → drop i values ≡ get_or values i d ∷ drop (i + 1) values
-next_values values i d here = rw (add-one, drop-cons values i d)
-
 next_fields : (fields : Pairs) (i : ℕ) (d : List ℕ × Value) → i < length fields → drop i fields ≡ get_or fields i d ∷ drop (i + 1) fields
 next_fields fields i d here = rw (add-one, drop-cons fields i d)
 
 module _ (known : List Known) (preview : Bool) where
-  -- one more value is filled
-  pub values_next : (place : Place) (values : List Value) (i : ℕ) (d : Value) (made : List Value) (one : Value) → i < length values
-      → filled known preview (get_or values i d) place ≡ Ok one
-      → and_then made (filled_values known preview place (drop i values)) ≡ and_then (made ++ one ∷ []) (filled_values known preview place (drop (i + 1) values))
-  values_next place values i d made one here is =
-      ap (λ left. and_then made (filled_values known preview place left)) (next_values values i d here)
-      ∙ ap (λ told. and_then made (before told (filled_values known preview place (drop (i + 1) values)))) is
-      ∙ and_then-before made one (filled_values known preview place (drop (i + 1) values))
-
-  -- what is missing in one value is missing in all
-  pub values_missing : (place : Place) (values : List Value) (i : ℕ) (d : Value) (made : List Value) (why : Unfilled) → i < length values
-      → filled known preview (get_or values i d) place ≡ Err why → and_then made (filled_values known preview place (drop i values)) ≡ Err why
-  values_missing place values i d made why here is =
-      ap (λ left. and_then made (filled_values known preview place left)) (next_values values i d here)
-      ∙ ap (λ told. and_then made (before told (filled_values known preview place (drop (i + 1) values)))) is
-
   -- one more field is filled
   pub members_next : (levels : ℕ) (fields : Pairs) (i : ℕ) (d : List ℕ × Value) (made : Pairs) (one : Value) → i < length fields
       → filled known preview (get_or fields i d).1 (under (get_or fields i d).0 levels) ≡ Ok one
@@ -73,13 +46,6 @@ module _ (known : List Known) (preview : Bool) where
       ap (λ left. and_then made (filled_members known preview levels left)) (next_fields fields i d here)
       ∙ ap (λ told. and_then made (before (made_of (λ (found : Value). ((get_or fields i d).0, found)) told) (filled_members known preview levels (drop (i + 1) fields)))) is
       ∙ and_then-before made ((get_or fields i d).0, one) (filled_members known preview levels (drop (i + 1) fields))
-
-  pub members_missing : (levels : ℕ) (fields : Pairs) (i : ℕ) (d : List ℕ × Value) (made : Pairs) (why : Unfilled) → i < length fields
-      → filled known preview (get_or fields i d).1 (under (get_or fields i d).0 levels) ≡ Err why
-      → and_then made (filled_members known preview levels (drop i fields)) ≡ Err why
-  members_missing levels fields i d made why here is =
-      ap (λ left. and_then made (filled_members known preview levels left)) (next_fields fields i d here)
-      ∙ ap (λ told. and_then made (before (made_of (λ (found : Value). ((get_or fields i d).0, found)) told) (filled_members known preview levels (drop (i + 1) fields)))) is
 
 -- the keys with one more
 pub keys_next : (made fields : Pairs) (i : ℕ) (d : List ℕ × Value) (one : Value) → i < length fields → keys_of made ≡ keys_of (take i fields)

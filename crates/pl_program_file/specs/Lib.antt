@@ -1,4 +1,3 @@
-pub mod Field
 pub mod Filled
 pub mod Names
 pub mod Read

@@ -11,17 +11,6 @@ pub enum ProgramFault {
     OutOfMemory,
 }
 
-impl From<OutOfMemory> for ProgramFault {
-    ghost use Rattle.std.specs.Prelude.{◌≡◌};
-    ghost use Rattle.pl_program_file.specs.declared.fault.ProgramFault.TheVariants.{OutOfMemory};
-
-    ghost from_gives = { λ _ made. made ≡ OutOfMemory };
-
-    fn from(_error: OutOfMemory) -> ProgramFault {
-        ProgramFault::OutOfMemory
-    }
-}
-
 /// Why a value with references was not filled.
 #[derive(Debug, Drop, Error)]
 pub enum Unfilled {

@@ -1,4 +1,5 @@
 ghost use Rattle.std.specs.Prelude.{◌≡◌, ◌≢◌, ◌≤◌, IfErr, IfOk, IfSome, IsTrue, option_map};
+ghost use Rattle.pl_value.specs.Depth.{most_levels};
 ghost use Rattle.pl_value.specs.Inside.{depth};
 ghost use Rattle.pl_value.specs.IsValue.{AreFields, AreValues, IsValue, is_unmarked, may_stand_under};
 ghost use Rattle.pl_program_file.specs.Filled as spec;
@@ -6,7 +7,9 @@ ghost use Rattle.pl_program_file.specs.Filled as spec;
 use crate::fault::Unfilled;
 use crate::known::{Known, known_at, value_of};
 use crate::reference::reference_in;
-use pl_value::{Fields, OutOfMemory, Text, Value, Values, may_stand_under, secret_key};
+use pl_value::{
+    Fields, MOST_LEVELS, OutOfMemory, Text, Value, Values, may_stand_under, secret_key,
+};
 use sqlite_items::Boxed;
 use std::alloc::Global;
 
@@ -18,9 +21,6 @@ struct Place {
     /// Whether it is right under the key by which JSON marks a secret.
     marked: bool,
 }
-
-/// The most lists, objects and secrets that may stand in each other in the value of a field.
-const DEEPEST: u64 = 64;
 
 /// The fields with what the references in them stand for. An output that is absent counts as missing, and so does one
 /// that would be nested too deep or would make a secret's mark; in a preview the unknown stands in its place.
@@ -34,7 +34,7 @@ pub fn filled_fields(
     ensures missing { IfErr result (λ why. why ≢ Unfilled.OutOfMemory
         → spec.filled_fields known.now preview fields.now ≡ Err why) }
 {
-    filled_members(alloc, known, preview, fields.as_slice(), DEEPEST)
+    filled_members(alloc, known, preview, fields.as_slice(), MOST_LEVELS)
 }
 
 #[cycle(filling)]
@@ -46,7 +46,7 @@ fn filled(
     place: Place,
 ) -> Result<Value, Unfilled>
     requires sound { IsValue value.now }
-    requires levels { place.levels ≤ 64 }
+    requires levels { place.levels ≤ most_levels }
     ensures filled { IfOk result (λ made. spec.filled known.now preview value.now place ≡ Ok made) }
     ensures missing { IfErr result (λ why. why ≢ Unfilled.OutOfMemory
         → spec.filled known.now preview value.now place ≡ Err why) }
@@ -103,7 +103,7 @@ fn filled_values(
     levels: u64,
 ) -> Result<Values, Unfilled>
     requires sound { AreValues values.now }
-    requires levels { levels ≤ 64 }
+    requires levels { levels ≤ most_levels }
     ensures filled { IfOk result (λ made. spec.filled_values known.now preview (spec.inside levels) values.now ≡ Ok made) }
     ensures missing { IfErr result (λ why. why ≢ Unfilled.OutOfMemory
         → spec.filled_values known.now preview (spec.inside levels) values.now ≡ Err why) }
@@ -124,7 +124,7 @@ fn filled_members(
     levels: u64,
 ) -> Result<Fields, Unfilled>
     requires sound { AreFields fields.now }
-    requires levels { levels ≤ 64 }
+    requires levels { levels ≤ most_levels }
     ensures filled { IfOk result (λ made. spec.filled_members known.now preview levels fields.now ≡ Ok made) }
     ensures missing { IfErr result (λ why. why ≢ Unfilled.OutOfMemory
         → spec.filled_members known.now preview levels fields.now ≡ Err why) }
@@ -155,7 +155,7 @@ fn filled_text(
     place: Place,
 ) -> Result<Value, Unfilled>
     requires sound { IsValue (Value.Text text.now) }
-    requires levels { place.levels ≤ 64 }
+    requires levels { place.levels ≤ most_levels }
     ensures filled { IfOk result (λ made. spec.filled_text known.now preview text.now place ≡ Ok made) }
     ensures missing { IfErr result (λ why. why ≢ Unfilled.OutOfMemory
         → spec.filled_text known.now preview text.now place ≡ Err why) }
@@ -176,7 +176,7 @@ fn referred(
     key: &str,
     place: Place,
 ) -> Result<Value, Unfilled>
-    requires { place.levels ≤ 64 }
+    requires { place.levels ≤ most_levels }
     ensures filled { IfOk result (λ made. spec.referred known.now preview place (name.now, key.now) ≡ Ok made) }
     ensures missing { IfErr result (λ why. why ≢ Unfilled.OutOfMemory
         → spec.referred known.now preview place (name.now, key.now) ≡ Err why) }
@@ -206,7 +206,7 @@ fn fitting(
     key: &str,
     place: Place,
 ) -> Result<Option<Value>, OutOfMemory>
-    requires { place.levels ≤ 64 }
+    requires { place.levels ≤ most_levels }
     ensures value { IfOk result (λ found. found ≡ spec.fitting known.now place (name.now, key.now)) }
     ensures sound { IfOk result (λ found. IfSome found IsValue) }
 {
@@ -221,7 +221,7 @@ fn fitting(
 
 /// Whether the value may stand in the place.
 fn fits(value: &Value, place: Place) -> bool
-    requires { place.levels ≤ 64 }
+    requires { place.levels ≤ most_levels }
     ensures { result ≡ spec.fits place value.now }
 {
     value.depth() <= place.levels && (!place.marked || may_stand_under(secret_key(), value))

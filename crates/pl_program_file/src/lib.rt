@@ -2,7 +2,6 @@
 #![tactic(auto)]
 
 mod fault;
-mod field;
 mod filling;
 mod known;
 mod names;
@@ -10,8 +9,6 @@ mod program;
 mod reading;
 mod reference;
 mod registering;
-#[cfg(test)]
-mod tests;
 
 pub use fault::{ProgramFault, Unfilled};
 pub use filling::filled_fields;

@@ -1,62 +1,73 @@
 ghost use Rattle.std.specs.Prelude.{◌≡◌, [], IfOk, Err, None, Some, option_map};
 ghost use Rattle.serde_json.specs.View.{items_view, view};
-ghost use Rattle.pl_program_file.specs.Field.{each_item, present};
+ghost use Rattle.pl_members.specs.Field.{each_item, present};
 ghost use Rattle.pl_program_file.specs.Names.{have_names, has_name, may_all_follow, may_be_told, may_follow};
 ghost use Rattle.pl_program_file.specs.Read as spec;
 
 use crate::fault::ProgramFault;
-use crate::field::{
-    flag_if_there, flag_or, json_of, pairs_if_there, pairs_or_none, present, text, text_if_there,
-    texts_or_none,
-};
 use crate::names::{names_in_fields, names_of};
 use crate::program::{Links, Program, Resource, Resources, Settings};
 use crate::reference::is_name;
+use pl_members::{
+    Unread, flag_if_there, flag_or, json_of, pairs_if_there, pairs_or_none, present, text,
+    text_if_there, texts_or_none,
+};
 use pl_value::{Fields, OutOfMemory, Text};
 use serde_json::{Map, Value};
 use std::alloc::Global;
 
 /// The program that the bytes of a file spell. Names of resources are distinct, and each name that is used is that of
 /// an earlier resource; in the outputs it is that of any.
-#[tactic(auto, unfolding(crate::specs::Read::program_of))]
 pub fn read_program(alloc: Global, bytes: &[u8]) -> Result<Program, ProgramFault>
     ensures read { IfOk result (λ program. spec.program_of bytes.now ≡ Some program) }
     ensures bad { result ≡ Err ProgramFault.BadProgram → spec.program_of bytes.now ≡ None }
+{
+    match program_of(alloc, bytes) {
+        Ok(program) => Ok(program),
+        Err(Unread::WrongForm) => Err(ProgramFault::BadProgram),
+        Err(Unread::OutOfMemory) => Err(ProgramFault::OutOfMemory),
+    }
+}
+
+#[tactic(auto, unfolding(crate::specs::Read::program_of))]
+fn program_of(alloc: Global, bytes: &[u8]) -> Result<Program, Unread>
+    ensures read { IfOk result (λ program. spec.program_of bytes.now ≡ Some program) }
+    ensures wrong_form { result ≡ Err Unread.WrongForm → spec.program_of bytes.now ≡ None }
 {
     let given = json_of(alloc, bytes)?;
     program_read(alloc, &given)
 }
 
 #[tactic(auto, unfolding(crate::specs::Read::program_read))]
-fn program_read(alloc: Global, given: &Value) -> Result<Program, ProgramFault>
+fn program_read(alloc: Global, given: &Value) -> Result<Program, Unread>
     ensures read { IfOk result (λ program. spec.program_read (view given.now) ≡ Some program) }
-    ensures bad { result ≡ Err ProgramFault.BadProgram → spec.program_read (view given.now) ≡ None }
+    ensures wrong_form { result ≡ Err Unread.WrongForm → spec.program_read (view given.now) ≡ None }
 {
     let resources = resources_in(alloc, given.get("resources"))?;
-    let outputs = pairs_if_there(alloc, given, "outputs")?;
+    let outputs = pairs_if_there(alloc, present(given, "outputs"))?;
     if !is_formed(alloc, resources.as_slice(), &outputs)? {
-        return Err(ProgramFault::BadProgram);
+        return Err(Unread::WrongForm);
     }
     Ok(Program { resources, outputs })
 }
 
-fn resources_in(alloc: Global, list: Option<&Value>) -> Result<Resources, ProgramFault>
+fn resources_in(alloc: Global, list: Option<&Value>) -> Result<Resources, Unread>
     ensures read { IfOk result (λ made. spec.resources_in (option_map (λ given. view given.now) list.entry) ≡ Some made) }
-    ensures bad { result ≡ Err ProgramFault.BadProgram
+    ensures wrong_form { result ≡ Err Unread.WrongForm
         → spec.resources_in (option_map (λ given. view given.now) list.entry) ≡ None }
 {
     let Some(given) = list else {
-        return Err(ProgramFault::BadProgram);
+        return Err(Unread::WrongForm);
     };
     let Some(items) = given.as_array() else {
-        return Err(ProgramFault::BadProgram);
+        return Err(Unread::WrongForm);
     };
     each_resource(alloc, items.as_slice())
 }
 
-fn each_resource(alloc: Global, items: &[Value]) -> Result<Resources, ProgramFault>
+fn each_resource(alloc: Global, items: &[Value]) -> Result<Resources, Unread>
     ensures read { IfOk result (λ made. each_item spec.resource_read (items_view items.now) ≡ Some made) }
-    ensures bad { result ≡ Err ProgramFault.BadProgram
+    ensures wrong_form { result ≡ Err Unread.WrongForm
         → each_item spec.resource_read (items_view items.now) ≡ None }
 {
     let mut resources = Resources::new(alloc);
@@ -67,14 +78,14 @@ fn each_resource(alloc: Global, items: &[Value]) -> Result<Resources, ProgramFau
 }
 
 #[tactic(auto, unfolding(crate::specs::Read::resource_read))]
-fn resource_read(alloc: Global, given: &Value) -> Result<Resource, ProgramFault>
+fn resource_read(alloc: Global, given: &Value) -> Result<Resource, Unread>
     ensures read { IfOk result (λ made. spec.resource_read (view given.now) ≡ Some made) }
-    ensures bad { result ≡ Err ProgramFault.BadProgram → spec.resource_read (view given.now) ≡ None }
+    ensures wrong_form { result ≡ Err Unread.WrongForm → spec.resource_read (view given.now) ≡ None }
 {
     let name = text(alloc, given, "name")?;
     let kind = text(alloc, given, "type")?;
     let Some(custom) = flag_or(given, "custom", true) else {
-        return Err(ProgramFault::BadProgram);
+        return Err(Unread::WrongForm);
     };
     let inputs = pairs_or_none(alloc, given, "inputs")?;
     let (links, settings) = options_in(alloc, present(given, "options"))?;
@@ -90,16 +101,16 @@ fn resource_read(alloc: Global, given: &Value) -> Result<Resource, ProgramFault>
 
 /// What the options say; where they are absent, what an empty object says.
 #[tactic(auto, unfolding(crate::specs::Read::options_in, crate::specs::Read::options_read))]
-fn options_in(alloc: Global, options: Option<&Value>) -> Result<(Links, Settings), ProgramFault>
+fn options_in(alloc: Global, options: Option<&Value>) -> Result<(Links, Settings), Unread>
     ensures read { IfOk result (λ made. spec.options_in (option_map (λ given. view given.now) options.entry) ≡ Some made) }
-    ensures bad { result ≡ Err ProgramFault.BadProgram
+    ensures wrong_form { result ≡ Err Unread.WrongForm
         → spec.options_in (option_map (λ given. view given.now) options.entry) ≡ None }
 {
     match options {
         None => options_read(alloc, &Value::Object(Map::new(alloc))),
         Some(given) => {
             if !given.is_object() {
-                return Err(ProgramFault::BadProgram);
+                return Err(Unread::WrongForm);
             }
             options_read(alloc, given)
         }
@@ -107,9 +118,9 @@ fn options_in(alloc: Global, options: Option<&Value>) -> Result<(Links, Settings
 }
 
 #[tactic(auto, unfolding(crate::specs::Read::options_read))]
-fn options_read(alloc: Global, given: &Value) -> Result<(Links, Settings), ProgramFault>
+fn options_read(alloc: Global, given: &Value) -> Result<(Links, Settings), Unread>
     ensures read { IfOk result (λ made. spec.options_read (view given.now) ≡ Some made) }
-    ensures bad { result ≡ Err ProgramFault.BadProgram → spec.options_read (view given.now) ≡ None }
+    ensures wrong_form { result ≡ Err Unread.WrongForm → spec.options_read (view given.now) ≡ None }
 {
     let links = links_read(alloc, given)?;
     let settings = settings_read(alloc, given)?;
@@ -117,13 +128,13 @@ fn options_read(alloc: Global, given: &Value) -> Result<(Links, Settings), Progr
 }
 
 #[tactic(auto, unfolding(crate::specs::Read::links_read))]
-fn links_read(alloc: Global, given: &Value) -> Result<Links, ProgramFault>
+fn links_read(alloc: Global, given: &Value) -> Result<Links, Unread>
     ensures read { IfOk result (λ made. spec.links_read (view given.now) ≡ Some made) }
-    ensures bad { result ≡ Err ProgramFault.BadProgram → spec.links_read (view given.now) ≡ None }
+    ensures wrong_form { result ≡ Err Unread.WrongForm → spec.links_read (view given.now) ≡ None }
 {
-    let parent = text_if_there(alloc, given, "parent")?;
-    let provider = text_if_there(alloc, given, "provider")?;
-    let deleted_with = text_if_there(alloc, given, "deletedWith")?;
+    let parent = text_if_there(alloc, present(given, "parent"))?;
+    let provider = text_if_there(alloc, present(given, "provider"))?;
+    let deleted_with = text_if_there(alloc, present(given, "deletedWith"))?;
     let depends_on = texts_or_none(alloc, given, "dependsOn")?;
     Ok(Links {
         parent,
@@ -134,22 +145,24 @@ fn links_read(alloc: Global, given: &Value) -> Result<Links, ProgramFault>
 }
 
 #[tactic(auto, unfolding(crate::specs::Read::settings_read))]
-fn settings_read(alloc: Global, given: &Value) -> Result<Settings, ProgramFault>
+fn settings_read(alloc: Global, given: &Value) -> Result<Settings, Unread>
     ensures read { IfOk result (λ made. spec.settings_read (view given.now) ≡ Some made) }
-    ensures bad { result ≡ Err ProgramFault.BadProgram → spec.settings_read (view given.now) ≡ None }
+    ensures wrong_form { result ≡ Err Unread.WrongForm → spec.settings_read (view given.now) ≡ None }
 {
     let Some(protect) = flag_or(given, "protect", false) else {
-        return Err(ProgramFault::BadProgram);
+        return Err(Unread::WrongForm);
     };
     let Some(retain_on_delete) = flag_or(given, "retainOnDelete", false) else {
-        return Err(ProgramFault::BadProgram);
+        return Err(Unread::WrongForm);
     };
-    let delete_before_replace = flag_if_there(given, "deleteBeforeReplace")?;
+    let Some(delete_before_replace) = flag_if_there(given, "deleteBeforeReplace") else {
+        return Err(Unread::WrongForm);
+    };
     let aliases = texts_or_none(alloc, given, "aliases")?;
     let ignore_changes = texts_or_none(alloc, given, "ignoreChanges")?;
     let additional_secret_outputs = texts_or_none(alloc, given, "additionalSecretOutputs")?;
-    let import_id = text_if_there(alloc, given, "importId")?;
-    let version = text_if_there(alloc, given, "version")?;
+    let import_id = text_if_there(alloc, present(given, "importId"))?;
+    let version = text_if_there(alloc, present(given, "version"))?;
     Ok(Settings {
         protect,
         aliases,

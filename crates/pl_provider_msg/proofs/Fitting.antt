@@ -1,85 +1,23 @@
 -- A reply that is read fits its call.
-use Rattle.std.proofs.Common.{◌≡◌, ◌≤◌, ℕ, ◌==◌, Bool, true, false, not, cond, List, [], ◌∷◌, codes, Option, Some, None, option_map, option_and_then, Result, Ok, Err, refl, sym, ap, ◌∙◌, arith, tests}
+use Rattle.std.proofs.Common.{◌≡◌, ℕ, ◌==◌, Bool, true, false, cond, List, codes, Option, Some, None, option_map, refl}
 use Rattle.std.proofs.lemmas.Bool.{and_from}
-use Rattle.std.specs.Result.{result_map_both, result_ok}
-use Rattle.serde_json.specs.Data.{Data, null, boolean, number, string, array, object, Members}
+use Rattle.serde_json.specs.Data.{Data}
 use Rattle.serde_json.specs.Find.{get, as_bool, as_object, as_str}
-use Rattle.pl_json.specs.Read.{deepest, fields_of, is_marked, members_read, read_in, secret_read, unless_secret_by}
-use Rattle.pl_json.proofs.Shallow.{deepest-is, shallow-members}
-use Rattle.pl_state.specs.Component.{has_none}
-use Rattle.pl_value.specs.Inside.{greatest_field_depth}
-use Rattle.pl_value.specs.declared.json.JsonFault.{JsonFault}
-use Rattle.pl_events.specs.Replies.{are_shallow, are_shallow_if_there, reply_fits}
+use Rattle.pl_events.specs.Replies.{are_shallow, reply_fits}
 use Rattle.pl_events.specs.declared.operation.Call.{Call}
 use Rattle.pl_events.specs.declared.operation.Call.TheVariants as call
 use Rattle.pl_events.specs.declared.reply.Reply.{Reply}
 use Rattle.pl_events.specs.declared.reply.Reply.TheVariants.{Checked, CheckFailed, Changed, Result as Resulted, Error}
-use Rattle.pl_provider_msg.specs.Field.{Pairs, flag_or_false, json_of, nonempty_text, pairs, pairs_if_there, pairs_of, present, some_reasons, some_texts, text, texts_or_none, unless_none, whole}
+use Rattle.pl_members.specs.Field.{Pairs, flag_or, json_of, nonempty_text, pairs, pairs_if_there, present, some_texts, text, texts_or_none, whole}
+use Rattle.pl_provider_msg.specs.Reasons.{some_reasons}
 use Rattle.pl_provider_msg.specs.Laws.{RepliesFit}
 use Rattle.pl_provider_msg.specs.Response.{changed_partly_of, compared_of, error_of, failures_of, found_of, gone_if, gone_of, made_of, made_partly_of, partial_of, reply_by, reply_called, reply_in, reply_read, success_of}
 use Rattle.pl_provider_msg.specs.Words.{changes_named}
-use Rattle.pl_provider_msg.proofs.Steps.{Gives, gives, gives_map, gives_next}
+use Rattle.pl_members.proofs.Steps.{Gives, gives, gives_map, gives_next}
+use Rattle.pl_members.proofs.PlainPairs.{nonempty_text-there, pairs-shallow, pairs_if_there-shallow, some_list}
 
 abbrev Fits : Call → Option Reply → Type 0
 Fits asked read = Gives (λ reply. reply_fits asked reply ≡ true) read
-
--- ---- what is read of fields
-
-some_there : {X : Type 0} (xs found : List X) → unless_none xs ≡ Some found → not (has_none found) ≡ true
-some_there [] found is = cc
-some_there (x ∷ xs) found is = let same : (x ∷ xs) ≡ found = cc in ap (λ ys. not (has_none ys)) (sym same)
-
-some_list : {X : Type 0} (o : Option (List X)) (found : List X) → option_and_then unless_none o ≡ Some found → not (has_none found) ≡ true
-some_list None found is = cc
-some_list (Some xs) found is = some_there xs found is
-
-not_deep : (fields : Pairs) → greatest_field_depth fields ≤ 64 → are_shallow fields ≡ true
-not_deep fields shallow = grind (arith, tests)
-
-no_secret : {A : Type 0} (told : Result A JsonFault) (found : Pairs) → result_ok (fields_of [] (result_map_both (λ secret. None) (λ fault. fault) told)) ≡ Some found → ⊥
-no_secret (Ok secret) found is = cc
-no_secret (Err fault) found is = cc
-
-plain_read : (told : Result Pairs JsonFault) (found : Pairs) → result_ok (fields_of [] (result_map_both Some (λ fault. fault) told)) ≡ Some found → told ≡ Ok found
-plain_read (Ok fields) found is = cc
-plain_read (Err fault) found is = cc
-
--- the fields were read as those of an object that is no secret
-pub plain_object : (ms : Members) (marked : Result Bool JsonFault) (found : Pairs) → result_ok (fields_of [] (unless_secret_by ms marked)) ≡ Some found → marked ≡ Ok false
-plain_object ms (Ok true) found is = absurd (no_secret (secret_read (read_in deepest) ms) found is)
-plain_object ms (Ok false) found is = refl
-plain_object ms (Err fault) found is = cc
-
-pub plain_only : (ms : Members) (marked : Result Bool JsonFault) (found : Pairs) → result_ok (fields_of [] (unless_secret_by ms marked)) ≡ Some found → members_read (read_in deepest) ms ≡ Ok found
-plain_only ms (Ok true) found is = absurd (no_secret (secret_read (read_in deepest) ms) found is)
-plain_only ms (Ok false) found is = plain_read (members_read (read_in deepest) ms) found is
-plain_only ms (Err fault) found is = cc
-
-pub pairs_of-shallow : (value : Data) (found : Pairs) → pairs_of value ≡ Some found → are_shallow found ≡ true
-pairs_of-shallow null found is = cc
-pairs_of-shallow (boolean b) found is = cc
-pairs_of-shallow (number n) found is = cc
-pairs_of-shallow (string s) found is = cc
-pairs_of-shallow (array ds) found is = cc
-pairs_of-shallow (object ms) found is =
-    let within = shallow-members deepest ms found (plain_only ms (is_marked ms) found is) in
-    not_deep found (omega (arith, deepest-is))
-
-pairs-shallow : (value : Option Data) (found : Pairs) → pairs value ≡ Some found → are_shallow found ≡ true
-pairs-shallow None found is = cc
-pairs-shallow (Some value) found is = pairs_of-shallow value found is
-
-mapped_shallow : (o : Option Pairs) (found : Option Pairs) → ((fields : Pairs) → o ≡ Some fields → are_shallow fields ≡ true) → option_map Some o ≡ Some found → are_shallow_if_there found ≡ true
-mapped_shallow None found each is = cc
-mapped_shallow (Some fields) found each is =
-    let same : Some fields ≡ found = cc in ap are_shallow_if_there (sym same) ∙ each fields refl
-
-pairs_if_there-shallow : (value : Option Data) (found : Option Pairs) → pairs_if_there value ≡ Some found → are_shallow_if_there found ≡ true
-pairs_if_there-shallow None found is = let same : None ≡ found = cc in ap are_shallow_if_there (sym same)
-pairs_if_there-shallow (Some value) found is = mapped_shallow (pairs_of value) found (pairs_of-shallow value) is
-
-nonempty_text-there : (value : Option Data) (found : List ℕ) → nonempty_text value ≡ Some found → not (has_none found) ≡ true
-nonempty_text-there value found is = some_list (text value) found is
 
 -- ---- success
 
@@ -92,7 +30,7 @@ compared-fits ok =
     gives_next _ (text (get (codes "changes") ok)) _ (λ word w.
     gives_next _ (changes_named word) _ (λ changes c.
     gives_next _ (texts_or_none (present (codes "replaces") ok)) _ (λ replaces r.
-    gives_next _ (flag_or_false (present (codes "delete_before_replace") ok)) _ (λ first f. refl))))
+    gives_next _ (flag_or false (present (codes "delete_before_replace") ok)) _ (λ first f. refl))))
 
 made-fits : (ok : Data) → Fits call.Create (made_of ok)
 unfolding made_of
@@ -214,11 +152,6 @@ reply_read-fits : (ticket : ℕ) (asked : Call) (message : Data) → Fits asked 
 unfolding reply_read
 reply_read-fits ticket asked message =
     gives_next _ (whole (get (codes "n") message)) _ (λ n is. fits_if asked (n == ticket) (reply_called asked message) (reply_called-fits asked message))
-
--- a reply that a message spells fits
-pub read_fits : (ticket : ℕ) (asked : Call) (message : Data) (reply : Reply) → reply_read ticket asked message ≡ Some reply → reply_fits asked reply ≡ true
-read_fits ticket asked message reply is =
-    gives (λ one. reply_fits asked one ≡ true) (reply_read ticket asked message) reply (reply_read-fits ticket asked message) is
 
 pub replies_fit : RepliesFit
 unfolding reply_in

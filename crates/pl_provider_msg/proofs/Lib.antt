@@ -1,11 +1,5 @@
-pub mod Steps
-pub mod HeldData
-pub mod ReadValues
-pub mod ReadAgain
-pub mod Items
-pub mod Texts
-pub mod JsonTexts
 pub mod Fitting
-pub mod Outlines
+pub mod ReadAgain
 pub mod ReadBack
 pub mod RepliesBack
+pub mod Texts

@@ -1,135 +1,39 @@
 -- What was read is read again.
-use Rattle.std.proofs.Common.{◌≡◌, ℕ, ◌<◌, ◌^◌, ◌==◌, Bool, true, false, cond, is_none, List, codes, Option, Some, None, IfSome, option_map, option_and_then, Ordering, Less, Equal, Greater, refl, sym, ap, subst, ◌∙◌}
+use Rattle.std.proofs.Common.{◌≡◌, ℕ, ◌<◌, ◌^◌, ◌==◌, Bool, true, false, cond, List, codes, Option, Some, None, IfSome, refl, subst}
 use Rattle.std.proofs.lemmas.Bool.{eqb-true}
-use Rattle.std.specs.Cmp.Lexicographic.{slice_cmp}
-use Rattle.std.specs.Ordering.{nat_cmp, match_ordering}
-use Rattle.serde_json.specs.Data.{Num, unsigned, negative, float, Data, null, boolean, number, string, array, object, Members, no_members, member}
-use Rattle.serde_json.specs.Find.{as_bool, as_number, as_object, as_str, as_u64, get, get_member}
-use Rattle.pl_urn.specs.Grammar.{IsUrn, urn_fault}
-use Rattle.pl_urn.specs.declared.fault.UrnFault.{UrnFault}
-use Rattle.pl_json.specs.Read.{deepest, is_marked}
+use Rattle.serde_json.specs.Data.{Data}
+use Rattle.serde_json.specs.Find.{as_bool, as_object, as_str, get}
+use Rattle.pl_urn.specs.Grammar.{IsUrn}
 use Rattle.pl_events.specs.declared.operation.Ask.{Ask}
 use Rattle.pl_events.specs.declared.operation.Call.{Call}
 use Rattle.pl_events.specs.declared.operation.Call.TheVariants as call
 use Rattle.pl_events.specs.declared.reply.Reply.{Reply}
 use Rattle.pl_events.specs.declared.reply.Reply.TheVariants.{Checked, CheckFailed, Changed, Result as Resulted, Error}
-use Rattle.pl_provider_msg.specs.Field.{Pairs, flag_or_false, if_urn, json_of, nonempty_text, pairs, pairs_if_there, pairs_of, present, some_reasons, some_texts, text, texts_or_none, unless_null, urn, whole}
-use Rattle.pl_provider_msg.specs.Laws.{AreReadable, IsReadableAsk, IsReadableReply, RepliesAreReadAgain, RequestsAreReadAgain}
+use Rattle.pl_members.specs.Field.{Pairs, flag_or, json_of, nonempty_text, pairs, pairs_if_there, present, some_texts, text, texts_or_none, urn, whole}
+use Rattle.pl_provider_msg.specs.Reasons.{some_reasons}
+use Rattle.pl_members.specs.Readable.{AreReadable}
+use Rattle.pl_provider_msg.specs.Laws.{IsReadableAsk, IsReadableReply, RepliesAreReadAgain, RequestsAreReadAgain}
 use Rattle.pl_provider_msg.specs.Request.{ask_called, ask_in, ask_read, changing_of, checking_of, create_of, invoke_of, thing_of}
 use Rattle.pl_provider_msg.specs.Response.{changed_partly_of, compared_of, failures_of, found_of, gone_if, gone_of, made_of, made_partly_of, partial_of, reply_by, reply_called, reply_in, reply_read, success_of}
 use Rattle.pl_provider_msg.specs.Words.{call_named, changes_named}
 use Rattle.pl_provider_msg.specs.declared.asked.Changing.{Changing}
 use Rattle.pl_provider_msg.specs.declared.asked.Checking.{Checking}
 use Rattle.pl_provider_msg.specs.declared.asked.Thing.{Thing}
-use Rattle.pl_provider_msg.proofs.Fitting.{pairs_of-shallow, plain_object, plain_only, replies_fit}
-use Rattle.pl_provider_msg.proofs.HeldData.{Holds, IsFitNumber, MembersHold, json_of-holds}
+use Rattle.pl_provider_msg.proofs.Fitting.{replies_fit}
+use Rattle.pl_members.proofs.KindsGood.{get-holds, pairs-good, pairs_if_there-good, present-holds, urn-good, whole-fits}
+use Rattle.pl_members.proofs.HeldData.{Holds, json_of-holds}
 use Rattle.pl_provider_msg.proofs.ReadBack.{requests_are_read}
 use Rattle.pl_provider_msg.proofs.RepliesBack.{replies_are_read}
-use Rattle.pl_provider_msg.proofs.ReadValues.{fields_right, members_right}
-use Rattle.pl_provider_msg.proofs.Steps.{Gives, gives, gives_map, gives_next}
+use Rattle.pl_members.proofs.Steps.{Gives, gives, gives_map, gives_next}
 
 -- ---- fields
 
-found_by : (o : Ordering) (d : Data) (later : Option Data) → Holds d → Gives Holds later → Gives Holds (match_ordering o later (Some d) later)
-found_by Less d later here there = there
-found_by Equal d later here there = here
-found_by Greater d later here there = there
-
-member-holds : (name : List ℕ) (ms : Members) → MembersHold ms → Gives Holds (get_member name ms)
-member-holds name no_members hold = tt
-member-holds name (member key d ms) hold = found_by (slice_cmp nat_cmp name key) d (get_member name ms) hold.0 (member-holds name ms hold.2)
-
-get-holds : (name : List ℕ) (message : Data) → Holds message → Gives Holds (get name message)
-get-holds name null hold = tt
-get-holds name (boolean b) hold = tt
-get-holds name (number n) hold = tt
-get-holds name (string s) hold = tt
-get-holds name (array ds) hold = tt
-get-holds name (object ms) hold = member-holds name ms hold
-
-kept-holds : (value : Data) → Holds value → Gives Holds (unless_null value)
-kept-holds null hold = tt
-kept-holds (boolean b) hold = tt
-kept-holds (number n) hold = hold
-kept-holds (string s) hold = tt
-kept-holds (array ds) hold = hold
-kept-holds (object ms) hold = hold
-
-present-holds : (name : List ℕ) (message : Data) → Holds message → Gives Holds (present name message)
-present-holds name message hold = gives_next Holds (get name message) unless_null (λ value is. kept-holds value (gives Holds (get name message) value (get-holds name message hold) is))
-
-pairs_of-readable : (value : Data) → Holds value → Gives AreReadable (pairs_of value)
-pairs_of-readable null hold = tt
-pairs_of-readable (boolean b) hold = tt
-pairs_of-readable (number n) hold = tt
-pairs_of-readable (string s) hold = tt
-pairs_of-readable (array ds) hold = tt
-pairs_of-readable (object ms) hold = by_result (pairs_of (object ms)) refl
-  where
-    by_result : (o : Option Pairs) → pairs_of (object ms) ≡ o → Gives AreReadable o
-    by_result None is = tt
-    by_result (Some found) is =
-        let read = plain_only ms (is_marked ms) found is in
-        let right = members_right deepest ms found hold read in
-        record {
-          sound = fields_right deepest ms found hold (plain_object ms (is_marked ms) found is) read right;
-          fit = right.fit;
-          shallow = pairs_of-shallow (object ms) found is;
-        }
-
-pairs-readable : (value : Option Data) → Gives Holds value → Gives AreReadable (pairs value)
-pairs-readable None hold = tt
-pairs-readable (Some value) hold = pairs_of-readable value hold
-
-mapped_readable : (o : Option Pairs) → Gives AreReadable o → Gives (λ found. IfSome found AreReadable) (option_map Some o)
-mapped_readable None are = tt
-mapped_readable (Some fields) are = are
-
-pairs_if_there-readable : (value : Option Data) → Gives Holds value → Gives (λ found. IfSome found AreReadable) (pairs_if_there value)
-pairs_if_there-readable None hold = tt
-pairs_if_there-readable (Some value) hold = mapped_readable (pairs_of value) (pairs_of-readable value hold)
-
 -- the pairs in a field of a message
 in_field : (name : List ℕ) (message : Data) (fields : Pairs) → Holds message → pairs (get name message) ≡ Some fields → AreReadable fields
-in_field name message fields hold is = gives AreReadable (pairs (get name message)) fields (pairs-readable (get name message) (get-holds name message hold)) is
-
-no_fault : (fault : Option UrnFault) (found kept : List ℕ) → cond (is_none fault) (Some found) None ≡ Some kept → fault ≡ None
-no_fault None found kept is = refl
-no_fault (Some fault) found kept is = cc
-
-same_if_urn : (fault : Option UrnFault) (found kept : List ℕ) → cond (is_none fault) (Some found) None ≡ Some kept → found ≡ kept
-same_if_urn None found kept is = cc
-same_if_urn (Some fault) found kept is = cc
-
-if_urn-urn : (found kept : List ℕ) → if_urn found ≡ Some kept → IsUrn kept
-if_urn-urn found kept is = ap urn_fault (sym (same_if_urn (urn_fault found) found kept is)) ∙ no_fault (urn_fault found) found kept is
-
-urn-urn : (value : Option Data) → Gives IsUrn (urn value)
-urn-urn value = gives_next IsUrn (text value) if_urn (λ found is. by_result found (if_urn found) refl)
-  where
-    by_result : (found : List ℕ) (o : Option (List ℕ)) → if_urn found ≡ o → Gives IsUrn o
-    by_result found None is = tt
-    by_result found (Some kept) is = if_urn-urn found kept is
+in_field name message fields hold is = gives AreReadable (pairs (get name message)) fields (pairs-good (get name message) (get-holds name message hold)) is
 
 in_urn : (value : Option Data) (found : List ℕ) → urn value ≡ Some found → IsUrn found
-in_urn value found is = gives IsUrn (urn value) found (urn-urn value) is
-
-number-fits : (n : Num) → IsFitNumber n → Gives (λ m. m < 2 ^ 64) (as_u64 n)
-number-fits (unsigned n) fit = fit
-number-fits (negative z) fit = tt
-number-fits (float x) fit = tt
-
-data-fits : (d : Data) → Holds d → Gives (λ m. m < 2 ^ 64) (option_and_then as_u64 (as_number d))
-data-fits null hold = tt
-data-fits (boolean b) hold = tt
-data-fits (number n) hold = number-fits n hold
-data-fits (string s) hold = tt
-data-fits (array ds) hold = tt
-data-fits (object ms) hold = tt
-
-whole-fits : (value : Option Data) → Gives Holds value → Gives (λ m. m < 2 ^ 64) (whole value)
-whole-fits None hold = tt
-whole-fits (Some d) hold = data-fits d hold
+in_urn value found is = gives IsUrn (urn value) found (urn-good value) is
 
 -- ---- what is asked
 
@@ -144,7 +48,7 @@ checking-readable message hold =
     gives_next IsReadableChecking (pairs_if_there (get (codes "old") message)) _ (λ old o. (
       in_urn (get (codes "urn") message) name n,
       in_field (codes "inputs") message inputs hold i,
-      gives (λ found. IfSome found AreReadable) (pairs_if_there (get (codes "old") message)) old (pairs_if_there-readable (get (codes "old") message) (get-holds (codes "old") message hold)) o,
+      gives (λ found. IfSome found AreReadable) (pairs_if_there (get (codes "old") message)) old (pairs_if_there-good (get (codes "old") message) (get-holds (codes "old") message hold)) o,
     ))))
 
 abbrev IsReadableChanging : Changing → Type 0
@@ -241,7 +145,7 @@ compared-readable ok =
     gives_next IsReadableReply (text (get (codes "changes") ok)) _ (λ word w.
     gives_next IsReadableReply (changes_named word) _ (λ changes c.
     gives_next IsReadableReply (texts_or_none (present (codes "replaces") ok)) _ (λ replaces r.
-    gives_next IsReadableReply (flag_or_false (present (codes "delete_before_replace") ok)) _ (λ first f. tt))))
+    gives_next IsReadableReply (flag_or false (present (codes "delete_before_replace") ok)) _ (λ first f. tt))))
 
 made-readable : (ok : Data) → Holds ok → Readable (made_of ok)
 unfolding made_of
@@ -255,7 +159,7 @@ found-readable ok hold =
     gives_next IsReadableReply (nonempty_text (get (codes "id") ok)) _ (λ id i.
     gives_next IsReadableReply (pairs_if_there (present (codes "inputs") ok)) _ (λ inputs n.
     gives_next IsReadableReply (pairs (get (codes "outputs") ok)) _ (λ outputs o. (
-      gives (λ found. IfSome found AreReadable) (pairs_if_there (present (codes "inputs") ok)) inputs (pairs_if_there-readable (present (codes "inputs") ok) (present-holds (codes "inputs") ok hold)) n,
+      gives (λ found. IfSome found AreReadable) (pairs_if_there (present (codes "inputs") ok)) inputs (pairs_if_there-good (present (codes "inputs") ok) (present-holds (codes "inputs") ok hold)) n,
       in_field (codes "outputs") ok outputs hold o,
     ))))
 

@@ -1,38 +1,24 @@
 -- What is written is read back.
-use Rattle.std.proofs.Common.{◌≡◌, ℕ, ◌<◌, ◌≤◌, ◌^◌, true, cond, is_none, List, [], Option, Some, None, IfSome, option_and_then, refl, ap, ◌∙◌, arith, tests}
-use Rattle.std.specs.Result.{result_ok}
+use Rattle.std.proofs.Common.{◌≡◌, ℕ, ◌<◌, ◌^◌, List, Option, Some, None, IfSome, option_and_then, refl, ap, ◌∙◌, arith}
 use Rattle.serde_json.specs.Read.{max_depth}
 use Rattle.pl_urn.specs.Grammar.{IsUrn}
-use Rattle.pl_value.specs.Inside.{greatest_field_depth}
 use Rattle.pl_json.specs.Spelled.{spelled_fields}
-use Rattle.pl_json.proofs.SpelledIsRead.{fields_are_read}
-use Rattle.pl_events.specs.Replies.{are_shallow}
 use Rattle.pl_events.specs.declared.operation.Ask.{Ask}
 use Rattle.pl_events.specs.declared.operation.Ask.TheVariants as ask
 use Rattle.pl_events.specs.declared.operation.Call.{Call}
 use Rattle.pl_events.specs.declared.operation.Call.TheVariants as call
-use Rattle.pl_provider_msg.specs.Field.{Pairs, if_urn, pairs_of}
-use Rattle.pl_provider_msg.specs.Laws.{AreReadable, IsReadableAsk, RequestsAreRead}
+use Rattle.pl_members.specs.Field.{Pairs}
+use Rattle.pl_members.specs.Readable.{AreReadable}
+use Rattle.pl_provider_msg.specs.Laws.{IsReadableAsk, RequestsAreRead}
 use Rattle.pl_provider_msg.specs.Request.{ask_data, ask_in, ask_read, ask_text, change_data, changing_of, check_data, checking_of, configure_data, create_data, create_of, invoke_data, invoke_of, thing_data, thing_of}
-use Rattle.pl_provider_msg.proofs.JsonTexts.{json_of_text}
-use Rattle.pl_provider_msg.proofs.Outlines.{IsRead, fields-read, object-read, string-read, text-read, ticket-read}
+use Rattle.pl_members.proofs.JsonTexts.{json_of_text}
+use Rattle.pl_members.proofs.Outlines.{IsRead, object-read, string-read, text-read, ticket-read}
+use Rattle.pl_members.proofs.KindsBack.{pairs-back, pairs-read-at, urn-back}
 
 -- ---- values
 
-pub shallow_of : (fields : Pairs) → are_shallow fields ≡ true → greatest_field_depth fields ≤ 64
-shallow_of fields is = grind (arith, tests)
-
-pub pairs-back : (fields : Pairs) → AreReadable fields → pairs_of (spelled_fields fields) ≡ Some fields
-pairs-back fields are = ap result_ok (fields_are_read [] fields are.sound are.fit (shallow_of fields are.shallow))
-
-pub pairs-read-at : (levels : ℕ) (fields : Pairs) → 65 ≤ levels → AreReadable fields → IsRead levels (spelled_fields fields)
-pairs-read-at levels fields room are = fields-read levels fields room are.sound are.fit (shallow_of fields are.shallow)
-
 pairs-read : (fields : Pairs) → AreReadable fields → IsRead 126 (spelled_fields fields)
 pairs-read fields are = pairs-read-at 126 fields (omega arith) are
-
-urn-back : (text : List ℕ) → IsUrn text → if_urn text ≡ Some text
-urn-back text is = ap (λ fault. cond (is_none fault) (Some text) None) is
 
 -- ---- what is asked
 

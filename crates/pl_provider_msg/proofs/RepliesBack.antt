@@ -2,10 +2,9 @@
 use Rattle.std.proofs.Common.{◌≡◌, ℕ, suc, ◌<◌, ◌^◌, ◌==◌, true, not, ◌&&◌, cond, List, [], ◌∷◌, map, Option, Some, None, IfSome, option_and_then, refl, ap, ◌∙◌, arith}
 use Rattle.std.proofs.lemmas.Bool.{and_parts, eq-eqb}
 use Rattle.serde_json.specs.Data.{Data, no_members, string}
-use Rattle.serde_json.specs.Find.{as_str}
 use Rattle.serde_json.specs.Read.{max_depth}
 use Rattle.serde_json.specs.View.{items_of}
-use Rattle.pl_state.specs.Component.{has_none}
+use Rattle.pl_lemmas.specs.Words.{has_none}
 use Rattle.pl_state.specs.declared.goal.Changes.{Changes}
 use Rattle.pl_state.specs.declared.goal.Changes.TheVariants.{NoChange, SomeChange, NotKnown}
 use Rattle.pl_state.specs.declared.goal.Diffed.{Diffed}
@@ -15,28 +14,23 @@ use Rattle.pl_events.specs.declared.operation.Call.{Call}
 use Rattle.pl_events.specs.declared.operation.Call.TheVariants as call
 use Rattle.pl_events.specs.declared.reply.Reply.{Reply}
 use Rattle.pl_events.specs.declared.reply.Reply.TheVariants.{Checked, CheckFailed, Configured, Diffed as Compared, Made, MadePartly, Changed, ChangedPartly, Removed, Found, Gone, Result, Error}
-use Rattle.pl_provider_msg.specs.Field.{Pairs, before, each_item, reason_of, unless_none}
-use Rattle.pl_provider_msg.specs.Laws.{AreReadable, IsReadableReply, RepliesAreRead}
+use Rattle.pl_members.specs.Field.{Pairs, before, each_item}
+use Rattle.pl_provider_msg.specs.Reasons.{reason_of}
+use Rattle.pl_members.specs.Readable.{AreReadable}
+use Rattle.pl_provider_msg.specs.Laws.{IsReadableReply, RepliesAreRead}
 use Rattle.pl_provider_msg.specs.Request.{object_of}
-use Rattle.pl_provider_msg.specs.Response.{changed_partly_of, compared_of, found_of, made_of, made_partly_of, ok_data, partial_data, reason_data, reply_called, reply_data, reply_in, reply_read, reply_text, texts_data}
+use Rattle.pl_provider_msg.specs.Response.{changed_partly_of, compared_of, found_of, made_of, made_partly_of, ok_data, partial_data, reason_data, reply_called, reply_data, reply_in, reply_read, reply_text}
+use Rattle.pl_members.specs.Spelled.{texts_data}
 use Rattle.pl_provider_msg.specs.Words.{changes_named, changes_word}
-use Rattle.pl_provider_msg.proofs.JsonTexts.{json_of_text}
-use Rattle.pl_provider_msg.proofs.Outlines.{EachRead, IsRead, array-read, boolean-read, each_text-read, object-read, string-read, text-read, ticket-read}
-use Rattle.pl_provider_msg.proofs.ReadBack.{pairs-back, pairs-read-at}
+use Rattle.pl_members.proofs.KindsBack.{each_text-back, pairs-back, pairs-read-at, some-back}
+use Rattle.pl_members.proofs.JsonTexts.{json_of_text}
+use Rattle.pl_members.proofs.Outlines.{EachRead, IsRead, array-read, boolean-read, each_text-read, object-read, string-read, text-read, ticket-read}
 
 -- ---- lists
-
-texts-back : (texts : List (List ℕ)) → each_item as_str (items_of (map string texts)) ≡ Some texts
-texts-back [] = refl
-texts-back (text ∷ more) = ap (before (Some text)) (texts-back more)
 
 reasons-back : (reasons : List (List ℕ × List ℕ)) → each_item reason_of (items_of (map reason_data reasons)) ≡ Some reasons
 reasons-back [] = refl
 reasons-back (pair ∷ more) = ap (before (Some pair)) (reasons-back more)
-
-some-back : {X : Type 0} (xs : List X) → not (has_none xs) ≡ true → unless_none xs ≡ Some xs
-some-back [] some = absurd cc
-some-back (x ∷ xs) some = refl
 
 texts-read : (levels : ℕ) (texts : List (List ℕ)) → IsRead (suc levels) (texts_data texts)
 texts-read levels texts = array-read levels (map string texts) (each_text-read levels texts)
@@ -117,7 +111,7 @@ changes-back NotKnown = refl
 
 compared-back : (ticket : ℕ) (asked : Call) (told : Diffed) → reply_fits asked (Compared told) ≡ true → Back ticket asked (Compared told)
 unfolding reply_called compared_of
-compared-back ticket call.Diff told fits = rw (changes-back told.changes, texts-back told.replaces) refl
+compared-back ticket call.Diff told fits = rw (changes-back told.changes, each_text-back told.replaces) refl
 compared-back ticket _ told fits = cc
 
 made-back : (ticket : ℕ) (asked : Call) (id : List ℕ) (outputs : Pairs) → reply_fits asked (Made id outputs) ≡ true → AreReadable outputs → Back ticket asked (Made id outputs)
@@ -133,7 +127,7 @@ unfolding reply_called made_partly_of
 made_partly-back ticket call.Create id outputs reasons fits is =
     let parts = and_parts (not (has_none id) && are_shallow outputs) (not (has_none reasons)) fits in
     let first = and_parts (not (has_none id)) (are_shallow outputs) parts.0 in
-    rw (some-back id first.0, pairs-back outputs is, texts-back reasons, some-back reasons parts.1) refl
+    rw (some-back id first.0, pairs-back outputs is, each_text-back reasons, some-back reasons parts.1) refl
 made_partly-back ticket _ id outputs reasons fits is = cc
 
 changed-back : (ticket : ℕ) (asked : Call) (outputs : Pairs) → reply_fits asked (Changed outputs) ≡ true → AreReadable outputs → Back ticket asked (Changed outputs)
@@ -146,7 +140,7 @@ changed_partly-back : (ticket : ℕ) (asked : Call) (outputs : Pairs) (reasons :
 unfolding reply_called changed_partly_of
 changed_partly-back ticket call.Update outputs reasons fits is =
     let parts = and_parts (are_shallow outputs) (not (has_none reasons)) fits in
-    rw (pairs-back outputs is, texts-back reasons, some-back reasons parts.1) refl
+    rw (pairs-back outputs is, each_text-back reasons, some-back reasons parts.1) refl
 changed_partly-back ticket _ outputs reasons fits is = cc
 
 removed-back : (ticket : ℕ) (asked : Call) → reply_fits asked Removed ≡ true → Back ticket asked Removed

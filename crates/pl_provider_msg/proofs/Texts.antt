@@ -1,7 +1,7 @@
 -- What is written for a message's value is the message's text.
 use Rattle.std.proofs.Common.{◌≡◌, ◌≤◌, ℕ, List, [], ◌∷◌, length, map, Option, Some, None, IfOk, false, refl, sym, ap, subst, ◌∙◌, arith}
 use Rattle.std.specs.Prelude as told
-use Rattle.serde_json.specs.Data.{Data, string}
+use Rattle.serde_json.specs.Data.{Data}
 use Rattle.serde_json.specs.View.{items_of}
 use Rattle.serde_json.specs.Written.{compact_text, has_float, items_have_float}
 use Rattle.pl_world.specs.Frames.{IsBody}
@@ -14,7 +14,8 @@ use Rattle.pl_events.specs.declared.operation.Call.TheVariants as call
 use Rattle.pl_events.specs.declared.reply.Reply.{Reply}
 use Rattle.pl_events.specs.declared.reply.Reply.TheVariants.{Checked, CheckFailed, Configured, Diffed, Made, MadePartly, Changed, ChangedPartly, Removed, Found, Gone, Result, Error}
 use Rattle.pl_provider_msg.specs.declared.failure.MsgOut.{MsgOut}
-use Rattle.pl_provider_msg.specs.Field.{Pairs}
+use Rattle.pl_members.proofs.NoFloats.{items-whole}
+use Rattle.pl_members.specs.Field.{Pairs}
 use Rattle.pl_provider_msg.specs.Request.{ask_data, ask_text, change_data, check_data, thing_data}
 use Rattle.pl_provider_msg.specs.Response.{reason_data, reply_data, reply_text}
 
@@ -42,10 +43,6 @@ has_float-ask_data ticket (ask.Delete urn id inputs outputs) = thing call.Delete
 has_float-ask_data ticket (ask.Read urn id inputs outputs) = thing call.Read ticket urn id inputs outputs
 has_float-ask_data ticket (ask.Invoke token args) = rw (has_float-spelled_members args) refl
 
-texts : (found : List (List ℕ)) → items_have_float (items_of (map string found)) ≡ false
-texts [] = refl
-texts (text ∷ more) = texts more
-
 reasons : (found : List (List ℕ × List ℕ)) → items_have_float (items_of (map reason_data found)) ≡ false
 reasons [] = refl
 reasons (pair ∷ more) = reasons more
@@ -54,11 +51,11 @@ has_float-reply_data : (ticket : ℕ) (reply : Reply) → has_float (reply_data 
 has_float-reply_data ticket (Checked inputs) = rw (has_float-spelled_members inputs) refl
 has_float-reply_data ticket (CheckFailed told) = rw (reasons told) refl
 has_float-reply_data ticket Configured = refl
-has_float-reply_data ticket (Diffed told) = rw (texts told.replaces) refl
+has_float-reply_data ticket (Diffed told) = rw (items-whole told.replaces) refl
 has_float-reply_data ticket (Made id outputs) = rw (has_float-spelled_members outputs) refl
-has_float-reply_data ticket (MadePartly id outputs told) = rw (has_float-spelled_members outputs, texts told) refl
+has_float-reply_data ticket (MadePartly id outputs told) = rw (has_float-spelled_members outputs, items-whole told) refl
 has_float-reply_data ticket (Changed outputs) = rw (has_float-spelled_members outputs) refl
-has_float-reply_data ticket (ChangedPartly outputs told) = rw (has_float-spelled_members outputs, texts told) refl
+has_float-reply_data ticket (ChangedPartly outputs told) = rw (has_float-spelled_members outputs, items-whole told) refl
 has_float-reply_data ticket Removed = refl
 has_float-reply_data ticket (Found id None outputs) = rw (has_float-spelled_members outputs) refl
 has_float-reply_data ticket (Found id (Some inputs) outputs) = rw (has_float-spelled_members inputs, has_float-spelled_members outputs) refl

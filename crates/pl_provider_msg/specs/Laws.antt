@@ -2,15 +2,13 @@
 use Rattle.std.specs.Prelude.{◌≡◌, ◌<◌, ◌^◌, ⊤, ℕ, true, List, Some, IfSome}
 use Rattle.std.specs.Str.{IsUtf8}
 use Rattle.pl_urn.specs.Grammar.{IsUrn}
-use Rattle.pl_value.specs.IsValue.{AreFields}
-use Rattle.pl_json.specs.Fits.{FieldsFit}
-use Rattle.pl_events.specs.Replies.{are_shallow, reply_fits}
+use Rattle.pl_events.specs.Replies.{reply_fits}
 use Rattle.pl_events.specs.declared.operation.Ask.{Ask}
 use Rattle.pl_events.specs.declared.operation.Ask.TheVariants as ask
 use Rattle.pl_events.specs.declared.operation.Call.{Call}
 use Rattle.pl_events.specs.declared.reply.Reply.{Reply}
 use Rattle.pl_events.specs.declared.reply.Reply.TheVariants.{Checked, Made, MadePartly, Changed, ChangedPartly, Found, Result}
-use Rattle.pl_provider_msg.specs.Field.{Pairs}
+use Rattle.pl_members.specs.Readable.{AreReadable}
 use Rattle.pl_provider_msg.specs.Request.{ask_in, ask_text}
 use Rattle.pl_provider_msg.specs.Response.{reply_in, reply_text}
 
@@ -20,13 +18,7 @@ RepliesFit =
     (ticket : ℕ) (asked : Call) (bytes : List ℕ) (reply : Reply) → reply_in ticket asked bytes ≡ Some reply
     → reply_fits asked reply ≡ true
 
--- fields of values, whose whole numbers have 64 bits with a sign, and none of them is too deep
-pub record AreReadable (fields : Pairs) : Type 0 where
-  pub sound : AreFields fields
-  pub fit : FieldsFit fields
-  pub shallow : are_shallow fields ≡ true
-
--- what is asked has a URN and such fields
+-- what is asked has a URN and fields of values that can be read
 abbrev pub IsReadableAsk : Ask → Type 0
 IsReadableAsk (ask.CheckConfig urn inputs old) = IsUrn urn × AreReadable inputs × IfSome old AreReadable
 IsReadableAsk (ask.Configure inputs) = AreReadable inputs

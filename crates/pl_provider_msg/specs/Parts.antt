@@ -5,7 +5,7 @@ use Rattle.pl_json.specs.Spelled.{spelled_fields}
 use Rattle.pl_events.specs.declared.operation.Ask.{Ask}
 use Rattle.pl_events.specs.declared.operation.Ask.TheVariants as ask
 use Rattle.pl_events.specs.declared.operation.Call.{Call}
-use Rattle.pl_provider_msg.specs.Field.{Pairs}
+use Rattle.pl_members.specs.Field.{Pairs}
 use Rattle.pl_provider_msg.specs.Words.{call_word}
 
 -- what each request has: its call and its ticket

@@ -10,7 +10,8 @@ use Rattle.pl_events.specs.declared.operation.Call.{Call}
 use Rattle.pl_events.specs.declared.operation.Call.TheVariants as call
 use Rattle.pl_events.specs.declared.reply.Reply.{Reply}
 use Rattle.pl_events.specs.declared.reply.Reply.TheVariants.{Checked, CheckFailed, Configured, Diffed as Compared, Made, MadePartly, Changed, ChangedPartly, Removed, Found, Gone, Result, Error}
-use Rattle.pl_provider_msg.specs.Field.{◌>>=◌, Pairs, flag_or_false, json_of, nonempty_text, pairs, pairs_if_there, present, some_reasons, some_texts, text, texts_or_none, whole}
+use Rattle.pl_members.specs.Field.{◌>>=◌, Pairs, flag_or, json_of, nonempty_text, pairs, pairs_if_there, present, some_texts, text, texts_or_none, whole}
+use Rattle.pl_provider_msg.specs.Reasons.{some_reasons}
 use Rattle.pl_provider_msg.specs.Request.{object_of}
 use Rattle.pl_provider_msg.specs.Words.{changes_named, changes_word}
 
@@ -81,7 +82,7 @@ compared_of ok = do
   word ← text (get (codes "changes") ok)
   changes ← changes_named word
   replaces ← texts_or_none (present (codes "replaces") ok)
-  first ← flag_or_false (present (codes "delete_before_replace") ok)
+  first ← flag_or false (present (codes "delete_before_replace") ok)
   Some (Compared (record { changes = changes; replaces = replaces; delete_before_replace = first }))
 
 -- a thing that was made

@@ -3,9 +3,9 @@ ghost use Rattle.serde_json.specs.View.{view};
 ghost use Rattle.pl_provider_msg.specs.Request.{ask_called, ask_in, ask_read, changing_of, checking_of, configure_of, create_of, invoke_of, thing_of};
 
 use crate::failure::MsgIn;
-use crate::field::{json_of, pairs, pairs_if_there, str_in, text, urn, whole};
 use crate::words::call_named;
 use pl_events::{Ask, Call};
+use pl_members::{Unread, json_of, pairs, pairs_if_there, str_in, text, urn, whole};
 use pl_urn::Urn;
 use pl_value::{Fields, Text};
 use serde_json::Value;
@@ -39,36 +39,47 @@ struct Thing {
 }
 
 /// What the body of a frame asks a provider, with its ticket.
-#[tactic(auto, unfolding(crate::specs::Request::ask_in))]
 pub fn ask_of(alloc: Global, bytes: &[u8]) -> Result<(u64, Ask), MsgIn>
     ensures asked { IfOk result (λ asked. ask_in bytes.now ≡ Some asked) }
     ensures no_message { result ≡ Err MsgIn.NotAMessage → ask_in bytes.now ≡ None }
+{
+    match ask_in(alloc, bytes) {
+        Ok(asked) => Ok(asked),
+        Err(Unread::WrongForm) => Err(MsgIn::NotAMessage),
+        Err(Unread::OutOfMemory) => Err(MsgIn::OutOfMemory),
+    }
+}
+
+#[tactic(auto, unfolding(crate::specs::Request::ask_in))]
+fn ask_in(alloc: Global, bytes: &[u8]) -> Result<(u64, Ask), Unread>
+    ensures asked { IfOk result (λ asked. ask_in bytes.now ≡ Some asked) }
+    ensures wrong_form { result ≡ Err Unread.WrongForm → ask_in bytes.now ≡ None }
 {
     let message = json_of(alloc, bytes)?;
     ask_read(alloc, &message)
 }
 
 #[tactic(auto, unfolding(crate::specs::Request::ask_read))]
-fn ask_read(alloc: Global, message: &Value) -> Result<(u64, Ask), MsgIn>
+fn ask_read(alloc: Global, message: &Value) -> Result<(u64, Ask), Unread>
     ensures asked { IfOk result (λ asked. ask_read (view message.now) ≡ Some asked) }
-    ensures no_message { result ≡ Err MsgIn.NotAMessage → ask_read (view message.now) ≡ None }
+    ensures wrong_form { result ≡ Err Unread.WrongForm → ask_read (view message.now) ≡ None }
 {
     let Some(ticket) = whole(message, "n") else {
-        return Err(MsgIn::NotAMessage);
+        return Err(Unread::WrongForm);
     };
     let Some(word) = str_in(message, "call") else {
-        return Err(MsgIn::NotAMessage);
+        return Err(Unread::WrongForm);
     };
     let Some(call) = call_named(word) else {
-        return Err(MsgIn::NotAMessage);
+        return Err(Unread::WrongForm);
     };
     let asked = ask_called(alloc, call, message)?;
     Ok((ticket, asked))
 }
 
-fn ask_called(alloc: Global, call: Call, message: &Value) -> Result<Ask, MsgIn>
+fn ask_called(alloc: Global, call: Call, message: &Value) -> Result<Ask, Unread>
     ensures asked { IfOk result (λ asked. ask_called call (view message.now) ≡ Some asked) }
-    ensures no_message { result ≡ Err MsgIn.NotAMessage → ask_called call (view message.now) ≡ None }
+    ensures wrong_form { result ≡ Err Unread.WrongForm → ask_called call (view message.now) ≡ None }
 {
     match call {
         Call::CheckConfig => Ok(checking_of(alloc, message)?.into_config()),
@@ -84,9 +95,9 @@ fn ask_called(alloc: Global, call: Call, message: &Value) -> Result<Ask, MsgIn>
 }
 
 #[tactic(auto, unfolding(crate::specs::Request::checking_of))]
-fn checking_of(alloc: Global, message: &Value) -> Result<Checking, MsgIn>
+fn checking_of(alloc: Global, message: &Value) -> Result<Checking, Unread>
     ensures told { IfOk result (λ told. checking_of (view message.now) ≡ Some told) }
-    ensures no_message { result ≡ Err MsgIn.NotAMessage → checking_of (view message.now) ≡ None }
+    ensures wrong_form { result ≡ Err Unread.WrongForm → checking_of (view message.now) ≡ None }
 {
     let urn = urn(alloc, message, "urn")?;
     let inputs = pairs(alloc, message, "inputs")?;
@@ -95,9 +106,9 @@ fn checking_of(alloc: Global, message: &Value) -> Result<Checking, MsgIn>
 }
 
 #[tactic(auto, unfolding(crate::specs::Request::changing_of))]
-fn changing_of(alloc: Global, message: &Value) -> Result<Changing, MsgIn>
+fn changing_of(alloc: Global, message: &Value) -> Result<Changing, Unread>
     ensures told { IfOk result (λ told. changing_of (view message.now) ≡ Some told) }
-    ensures no_message { result ≡ Err MsgIn.NotAMessage → changing_of (view message.now) ≡ None }
+    ensures wrong_form { result ≡ Err Unread.WrongForm → changing_of (view message.now) ≡ None }
 {
     let urn = urn(alloc, message, "urn")?;
     let id = text(alloc, message, "id")?;
@@ -114,9 +125,9 @@ fn changing_of(alloc: Global, message: &Value) -> Result<Changing, MsgIn>
 }
 
 #[tactic(auto, unfolding(crate::specs::Request::thing_of))]
-fn thing_of(alloc: Global, message: &Value) -> Result<Thing, MsgIn>
+fn thing_of(alloc: Global, message: &Value) -> Result<Thing, Unread>
     ensures told { IfOk result (λ told. thing_of (view message.now) ≡ Some told) }
-    ensures no_message { result ≡ Err MsgIn.NotAMessage → thing_of (view message.now) ≡ None }
+    ensures wrong_form { result ≡ Err Unread.WrongForm → thing_of (view message.now) ≡ None }
 {
     let urn = urn(alloc, message, "urn")?;
     let id = text(alloc, message, "id")?;
@@ -130,18 +141,18 @@ fn thing_of(alloc: Global, message: &Value) -> Result<Thing, MsgIn>
     })
 }
 
-fn configure_of(alloc: Global, message: &Value) -> Result<Ask, MsgIn>
+fn configure_of(alloc: Global, message: &Value) -> Result<Ask, Unread>
     ensures asked { IfOk result (λ asked. configure_of (view message.now) ≡ Some asked) }
-    ensures no_message { result ≡ Err MsgIn.NotAMessage → configure_of (view message.now) ≡ None }
+    ensures wrong_form { result ≡ Err Unread.WrongForm → configure_of (view message.now) ≡ None }
 {
     let inputs = pairs(alloc, message, "inputs")?;
     Ok(Ask::Configure { inputs })
 }
 
 #[tactic(auto, unfolding(crate::specs::Request::create_of))]
-fn create_of(alloc: Global, message: &Value) -> Result<Ask, MsgIn>
+fn create_of(alloc: Global, message: &Value) -> Result<Ask, Unread>
     ensures asked { IfOk result (λ asked. create_of (view message.now) ≡ Some asked) }
-    ensures no_message { result ≡ Err MsgIn.NotAMessage → create_of (view message.now) ≡ None }
+    ensures wrong_form { result ≡ Err Unread.WrongForm → create_of (view message.now) ≡ None }
 {
     let urn = urn(alloc, message, "urn")?;
     let inputs = pairs(alloc, message, "inputs")?;
@@ -149,9 +160,9 @@ fn create_of(alloc: Global, message: &Value) -> Result<Ask, MsgIn>
 }
 
 #[tactic(auto, unfolding(crate::specs::Request::invoke_of))]
-fn invoke_of(alloc: Global, message: &Value) -> Result<Ask, MsgIn>
+fn invoke_of(alloc: Global, message: &Value) -> Result<Ask, Unread>
     ensures asked { IfOk result (λ asked. invoke_of (view message.now) ≡ Some asked) }
-    ensures no_message { result ≡ Err MsgIn.NotAMessage → invoke_of (view message.now) ≡ None }
+    ensures wrong_form { result ≡ Err Unread.WrongForm → invoke_of (view message.now) ≡ None }
 {
     let token = text(alloc, message, "token")?;
     let args = pairs(alloc, message, "args")?;

@@ -8,9 +8,10 @@ ghost use Rattle.pl_provider_msg.specs.Parts.{begun, with_names, with_objects};
 ghost use Rattle.pl_provider_msg.specs.Request.{ask_data, ask_text, asked_call};
 
 use crate::failure::MsgOut;
-use crate::members::{Members, fitting, put_fields, put_text};
+use crate::members::fitting;
 use crate::words::call_word;
 use pl_events::{Ask, Call};
+use pl_members::{Members, put_fields, put_text};
 use pl_value::{Bytes, OutOfMemory};
 use serde_json::{Map, Value, put};
 use std::alloc::Global;

@@ -12,17 +12,6 @@ pub enum MsgIn {
     OutOfMemory,
 }
 
-impl From<OutOfMemory> for MsgIn {
-    ghost use Rattle.std.specs.Prelude.{◌≡◌};
-    ghost use Rattle.pl_provider_msg.specs.declared.failure.MsgIn.TheVariants.{OutOfMemory};
-
-    ghost from_gives = { λ _ made. made ≡ OutOfMemory };
-
-    fn from(_error: OutOfMemory) -> MsgIn {
-        MsgIn::OutOfMemory
-    }
-}
-
 /// Why a message was not written.
 #[derive(Debug, Drop, Error)]
 pub enum MsgOut {

@@ -4,14 +4,11 @@
 mod asked;
 mod asking;
 mod failure;
-mod field;
 mod laws;
-mod lists;
 mod members;
+mod reasons;
 mod replied;
 mod replying;
-#[cfg(test)]
-mod tests;
 mod words;
 
 pub use asked::ask_of;

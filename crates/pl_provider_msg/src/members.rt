@@ -1,19 +1,14 @@
-ghost use Rattle.std.specs.Prelude.{◌≡◌, ◌<◌, ◌≤◌, IfErr, IfOk, OnOk, length, map};
-ghost use Rattle.serde_json.specs.Data.{array, put, string};
-ghost use Rattle.serde_json.specs.View.{items_of, members_view, view};
-ghost use Rattle.pl_json.specs.Spelled.{spelled_fields};
+ghost use Rattle.std.specs.Prelude.{◌≡◌, ◌<◌, ◌≤◌, IfErr, IfOk, length, map};
+ghost use Rattle.serde_json.specs.Data.{array};
+ghost use Rattle.serde_json.specs.View.{items_of, view};
 ghost use Rattle.pl_provider_msg.specs.Out.{IfTooLong};
-ghost use Rattle.pl_provider_msg.specs.Response.{reason_data, texts_data};
+ghost use Rattle.pl_provider_msg.specs.Response.{reason_data};
 
 use crate::failure::MsgOut;
-use pl_json::spell_fields;
-use pl_value::{Bytes, Fields, OutOfMemory, Text};
+use pl_value::{Bytes, OutOfMemory, Text};
 use pl_world::MAX_BODY;
-use serde_json::{Map, Value, json, put};
+use serde_json::{Value, json};
 use std::alloc::{AllocError, Global};
-
-/// An object that is being put together.
-pub(crate) type Members = Map<String, Value>;
 
 /// The bytes as a message, unless they are too many for the body of a frame.
 pub(crate) fn fitting(bytes: Vec<u8>) -> Result<Bytes, MsgOut>
@@ -26,47 +21,6 @@ pub(crate) fn fitting(bytes: Vec<u8>) -> Result<Bytes, MsgOut>
         return Err(MsgOut::TooLong(bytes.len() as u64));
     }
     Ok(Bytes::from_vec(bytes))
-}
-
-/// Puts the text under the key.
-pub(crate) fn put_text(
-    alloc: Global,
-    members: &mut Members,
-    key: &str,
-    text: &str,
-) -> Result<(), OutOfMemory>
-    ensures { OnOk result (members_view members.new.entries
-        ≡ put key.now (string text.now) (members_view members.old.entries)) }
-{
-    let text = Value::try_from_str(alloc, text)?;
-    put(members, alloc, key, text)?;
-    Ok(())
-}
-
-/// Puts the fields as an object under the key.
-pub(crate) fn put_fields(
-    alloc: Global,
-    members: &mut Members,
-    key: &str,
-    fields: &Fields,
-) -> Result<(), OutOfMemory>
-    ensures { OnOk result (members_view members.new.entries
-        ≡ put key.now (spelled_fields fields.now) (members_view members.old.entries)) }
-{
-    let object = spell_fields(alloc, fields)?;
-    put(members, alloc, key, object)?;
-    Ok(())
-}
-
-/// The texts as an array.
-pub(crate) fn spell_texts(alloc: Global, texts: &[Text]) -> Result<Value, OutOfMemory>
-    ensures { IfOk result (λ made. view made ≡ texts_data texts.now) }
-{
-    let mut made = Vec::new(alloc);
-    for text in texts {
-        made.push(Value::try_from_str(alloc, text.as_str())?)?;
-    }
-    Ok(Value::Array(made))
 }
 
 /// The reasons as an array.

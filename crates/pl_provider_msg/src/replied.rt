@@ -4,46 +4,58 @@ ghost use Rattle.pl_events.specs.Replies.{reply_fits};
 ghost use Rattle.pl_provider_msg.specs.Response.{changed_of, changed_partly_of, checked_of, compared_of, done_of, error_of, failures_of, found_of, gone_of, made_of, made_partly_of, partial_of, reply_called, reply_in, reply_read, result_of, success_of};
 
 use crate::failure::MsgIn;
-use crate::field::{
-    flag_or_false, json_of, nonempty_text, pairs, pairs_if_there, present, str_in, whole,
-};
-use crate::lists::{some_reasons, some_texts, texts_or_none};
+use crate::reasons::some_reasons;
 use crate::words::changes_named;
 use pl_events::{Call, Reply};
+use pl_members::{
+    Unread, flag_or, json_of, nonempty_text, pairs, pairs_if_there, present, some_texts, str_in,
+    texts_or_none, whole,
+};
 use pl_state::Diffed;
 use pl_value::{OutOfMemory, Text};
 use serde_json::Value;
 use std::alloc::Global;
 
 /// The reply to a call that the body of a frame spells under a ticket.
-#[tactic(auto, unfolding(crate::specs::Response::reply_in))]
 pub fn reply_of(alloc: Global, ticket: u64, call: Call, bytes: &[u8]) -> Result<Reply, MsgIn>
     ensures reply { IfOk result (λ reply. reply_in ticket call bytes.now ≡ Some reply) }
     ensures fits { IfOk result (λ reply. reply_fits call reply ≡ true) }
     ensures no_message { result ≡ Err MsgIn.NotAMessage → reply_in ticket call bytes.now ≡ None }
+{
+    match reply_in(alloc, ticket, call, bytes) {
+        Ok(reply) => Ok(reply),
+        Err(Unread::WrongForm) => Err(MsgIn::NotAMessage),
+        Err(Unread::OutOfMemory) => Err(MsgIn::OutOfMemory),
+    }
+}
+
+#[tactic(auto, unfolding(crate::specs::Response::reply_in))]
+fn reply_in(alloc: Global, ticket: u64, call: Call, bytes: &[u8]) -> Result<Reply, Unread>
+    ensures reply { IfOk result (λ reply. reply_in ticket call bytes.now ≡ Some reply) }
+    ensures wrong_form { result ≡ Err Unread.WrongForm → reply_in ticket call bytes.now ≡ None }
 {
     let message = json_of(alloc, bytes)?;
     reply_read(alloc, ticket, call, &message)
 }
 
 #[tactic(auto, unfolding(crate::specs::Response::reply_read))]
-fn reply_read(alloc: Global, ticket: u64, call: Call, message: &Value) -> Result<Reply, MsgIn>
+fn reply_read(alloc: Global, ticket: u64, call: Call, message: &Value) -> Result<Reply, Unread>
     ensures reply { IfOk result (λ reply. reply_read ticket call (view message.now) ≡ Some reply) }
-    ensures no_message { result ≡ Err MsgIn.NotAMessage → reply_read ticket call (view message.now) ≡ None }
+    ensures wrong_form { result ≡ Err Unread.WrongForm → reply_read ticket call (view message.now) ≡ None }
 {
     let Some(n) = whole(message, "n") else {
-        return Err(MsgIn::NotAMessage);
+        return Err(Unread::WrongForm);
     };
     if n != ticket {
-        return Err(MsgIn::NotAMessage);
+        return Err(Unread::WrongForm);
     }
     reply_called(alloc, call, message)
 }
 
 #[tactic(auto, unfolding(crate::specs::Response::reply_called))]
-fn reply_called(alloc: Global, call: Call, message: &Value) -> Result<Reply, MsgIn>
+fn reply_called(alloc: Global, call: Call, message: &Value) -> Result<Reply, Unread>
     ensures reply { IfOk result (λ reply. reply_called call (view message.now) ≡ Some reply) }
-    ensures no_message { result ≡ Err MsgIn.NotAMessage → reply_called call (view message.now) ≡ None }
+    ensures wrong_form { result ≡ Err Unread.WrongForm → reply_called call (view message.now) ≡ None }
 {
     match (
         message.get("ok"),
@@ -57,14 +69,14 @@ fn reply_called(alloc: Global, call: Call, message: &Value) -> Result<Reply, Msg
         (None, None, Some(failures), None, None) => failures_of(alloc, call, failures),
         (None, None, None, Some(partial), None) => partial_of(alloc, call, partial),
         (None, None, None, None, Some(gone)) => gone_of(call, gone),
-        _ => Err(MsgIn::NotAMessage),
+        _ => Err(Unread::WrongForm),
     }
 }
 
 /// What an object of success tells of a call.
-fn success_of(alloc: Global, call: Call, ok: &Value) -> Result<Reply, MsgIn>
+fn success_of(alloc: Global, call: Call, ok: &Value) -> Result<Reply, Unread>
     ensures reply { IfOk result (λ reply. success_of call (view ok.now) ≡ Some reply) }
-    ensures no_message { result ≡ Err MsgIn.NotAMessage → success_of call (view ok.now) ≡ None }
+    ensures wrong_form { result ≡ Err Unread.WrongForm → success_of call (view ok.now) ≡ None }
 {
     match call {
         Call::CheckConfig | Call::Check => checked_of(alloc, ok),
@@ -79,39 +91,39 @@ fn success_of(alloc: Global, call: Call, ok: &Value) -> Result<Reply, MsgIn>
 }
 
 /// The reply, if what stands there is an object.
-fn done_of(ok: &Value, reply: Reply) -> Result<Reply, MsgIn>
+fn done_of(ok: &Value, reply: Reply) -> Result<Reply, Unread>
     ensures reply { IfOk result (λ made. done_of reply (view ok.now) ≡ Some made) }
-    ensures no_message { result ≡ Err MsgIn.NotAMessage → done_of reply (view ok.now) ≡ None }
+    ensures wrong_form { result ≡ Err Unread.WrongForm → done_of reply (view ok.now) ≡ None }
 {
     if ok.is_object() {
         Ok(reply)
     } else {
-        Err(MsgIn::NotAMessage)
+        Err(Unread::WrongForm)
     }
 }
 
-fn checked_of(alloc: Global, ok: &Value) -> Result<Reply, MsgIn>
+fn checked_of(alloc: Global, ok: &Value) -> Result<Reply, Unread>
     ensures reply { IfOk result (λ reply. checked_of (view ok.now) ≡ Some reply) }
-    ensures no_message { result ≡ Err MsgIn.NotAMessage → checked_of (view ok.now) ≡ None }
+    ensures wrong_form { result ≡ Err Unread.WrongForm → checked_of (view ok.now) ≡ None }
 {
     let inputs = pairs(alloc, ok, "inputs")?;
     Ok(Reply::Checked(inputs))
 }
 
 #[tactic(auto, unfolding(crate::specs::Response::compared_of))]
-fn compared_of(alloc: Global, ok: &Value) -> Result<Reply, MsgIn>
+fn compared_of(alloc: Global, ok: &Value) -> Result<Reply, Unread>
     ensures reply { IfOk result (λ reply. compared_of (view ok.now) ≡ Some reply) }
-    ensures no_message { result ≡ Err MsgIn.NotAMessage → compared_of (view ok.now) ≡ None }
+    ensures wrong_form { result ≡ Err Unread.WrongForm → compared_of (view ok.now) ≡ None }
 {
     let Some(word) = str_in(ok, "changes") else {
-        return Err(MsgIn::NotAMessage);
+        return Err(Unread::WrongForm);
     };
     let Some(changes) = changes_named(word) else {
-        return Err(MsgIn::NotAMessage);
+        return Err(Unread::WrongForm);
     };
     let replaces = texts_or_none(alloc, ok, "replaces")?;
-    let Some(delete_before_replace) = flag_or_false(ok, "delete_before_replace") else {
-        return Err(MsgIn::NotAMessage);
+    let Some(delete_before_replace) = flag_or(ok, "delete_before_replace", false) else {
+        return Err(Unread::WrongForm);
     };
     Ok(Reply::Diffed(Diffed {
         changes,
@@ -121,27 +133,27 @@ fn compared_of(alloc: Global, ok: &Value) -> Result<Reply, MsgIn>
 }
 
 #[tactic(auto, unfolding(crate::specs::Response::made_of))]
-fn made_of(alloc: Global, ok: &Value) -> Result<Reply, MsgIn>
+fn made_of(alloc: Global, ok: &Value) -> Result<Reply, Unread>
     ensures reply { IfOk result (λ reply. made_of (view ok.now) ≡ Some reply) }
-    ensures no_message { result ≡ Err MsgIn.NotAMessage → made_of (view ok.now) ≡ None }
+    ensures wrong_form { result ≡ Err Unread.WrongForm → made_of (view ok.now) ≡ None }
 {
     let id = nonempty_text(alloc, ok, "id")?;
     let outputs = pairs(alloc, ok, "outputs")?;
     Ok(Reply::Made { id, outputs })
 }
 
-fn changed_of(alloc: Global, ok: &Value) -> Result<Reply, MsgIn>
+fn changed_of(alloc: Global, ok: &Value) -> Result<Reply, Unread>
     ensures reply { IfOk result (λ reply. changed_of (view ok.now) ≡ Some reply) }
-    ensures no_message { result ≡ Err MsgIn.NotAMessage → changed_of (view ok.now) ≡ None }
+    ensures wrong_form { result ≡ Err Unread.WrongForm → changed_of (view ok.now) ≡ None }
 {
     let outputs = pairs(alloc, ok, "outputs")?;
     Ok(Reply::Changed { outputs })
 }
 
 #[tactic(auto, unfolding(crate::specs::Response::found_of))]
-fn found_of(alloc: Global, ok: &Value) -> Result<Reply, MsgIn>
+fn found_of(alloc: Global, ok: &Value) -> Result<Reply, Unread>
     ensures reply { IfOk result (λ reply. found_of (view ok.now) ≡ Some reply) }
-    ensures no_message { result ≡ Err MsgIn.NotAMessage → found_of (view ok.now) ≡ None }
+    ensures wrong_form { result ≡ Err Unread.WrongForm → found_of (view ok.now) ≡ None }
 {
     let id = nonempty_text(alloc, ok, "id")?;
     let inputs = pairs_if_there(alloc, present(ok, "inputs"))?;
@@ -153,54 +165,54 @@ fn found_of(alloc: Global, ok: &Value) -> Result<Reply, MsgIn>
     })
 }
 
-fn result_of(alloc: Global, ok: &Value) -> Result<Reply, MsgIn>
+fn result_of(alloc: Global, ok: &Value) -> Result<Reply, Unread>
     ensures reply { IfOk result (λ reply. result_of (view ok.now) ≡ Some reply) }
-    ensures no_message { result ≡ Err MsgIn.NotAMessage → result_of (view ok.now) ≡ None }
+    ensures wrong_form { result ≡ Err Unread.WrongForm → result_of (view ok.now) ≡ None }
 {
     let fields = pairs(alloc, ok, "result")?;
     Ok(Reply::Result(fields))
 }
 
-fn error_of(alloc: Global, error: &Value) -> Result<Reply, MsgIn>
+fn error_of(alloc: Global, error: &Value) -> Result<Reply, Unread>
     ensures reply { IfOk result (λ reply. error_of (view error.now) ≡ Some reply) }
-    ensures no_message { result ≡ Err MsgIn.NotAMessage → error_of (view error.now) ≡ None }
+    ensures wrong_form { result ≡ Err Unread.WrongForm → error_of (view error.now) ≡ None }
 {
     let Some(text) = error.as_str() else {
-        return Err(MsgIn::NotAMessage);
+        return Err(Unread::WrongForm);
     };
     Ok(Reply::Error(Text::from_str(alloc, text)?))
 }
 
 /// Inputs that are refused.
-fn failures_of(alloc: Global, call: Call, failures: &Value) -> Result<Reply, MsgIn>
+fn failures_of(alloc: Global, call: Call, failures: &Value) -> Result<Reply, Unread>
     ensures reply { IfOk result (λ reply. failures_of call (view failures.now) ≡ Some reply) }
-    ensures no_message { result ≡ Err MsgIn.NotAMessage → failures_of call (view failures.now) ≡ None }
+    ensures wrong_form { result ≡ Err Unread.WrongForm → failures_of call (view failures.now) ≡ None }
 {
     match call {
         Call::CheckConfig | Call::Check => {
             let reasons = some_reasons(alloc, failures)?;
             Ok(Reply::CheckFailed(reasons))
         }
-        _ => Err(MsgIn::NotAMessage),
+        _ => Err(Unread::WrongForm),
     }
 }
 
 /// What was done in part.
-fn partial_of(alloc: Global, call: Call, partial: &Value) -> Result<Reply, MsgIn>
+fn partial_of(alloc: Global, call: Call, partial: &Value) -> Result<Reply, Unread>
     ensures reply { IfOk result (λ reply. partial_of call (view partial.now) ≡ Some reply) }
-    ensures no_message { result ≡ Err MsgIn.NotAMessage → partial_of call (view partial.now) ≡ None }
+    ensures wrong_form { result ≡ Err Unread.WrongForm → partial_of call (view partial.now) ≡ None }
 {
     match call {
         Call::Create => made_partly_of(alloc, partial),
         Call::Update => changed_partly_of(alloc, partial),
-        _ => Err(MsgIn::NotAMessage),
+        _ => Err(Unread::WrongForm),
     }
 }
 
 #[tactic(auto, unfolding(crate::specs::Response::made_partly_of))]
-fn made_partly_of(alloc: Global, partial: &Value) -> Result<Reply, MsgIn>
+fn made_partly_of(alloc: Global, partial: &Value) -> Result<Reply, Unread>
     ensures reply { IfOk result (λ reply. made_partly_of (view partial.now) ≡ Some reply) }
-    ensures no_message { result ≡ Err MsgIn.NotAMessage → made_partly_of (view partial.now) ≡ None }
+    ensures wrong_form { result ≡ Err Unread.WrongForm → made_partly_of (view partial.now) ≡ None }
 {
     let id = nonempty_text(alloc, partial, "id")?;
     let outputs = pairs(alloc, partial, "outputs")?;
@@ -213,9 +225,9 @@ fn made_partly_of(alloc: Global, partial: &Value) -> Result<Reply, MsgIn>
 }
 
 #[tactic(auto, unfolding(crate::specs::Response::changed_partly_of))]
-fn changed_partly_of(alloc: Global, partial: &Value) -> Result<Reply, MsgIn>
+fn changed_partly_of(alloc: Global, partial: &Value) -> Result<Reply, Unread>
     ensures reply { IfOk result (λ reply. changed_partly_of (view partial.now) ≡ Some reply) }
-    ensures no_message { result ≡ Err MsgIn.NotAMessage → changed_partly_of (view partial.now) ≡ None }
+    ensures wrong_form { result ≡ Err Unread.WrongForm → changed_partly_of (view partial.now) ≡ None }
 {
     let outputs = pairs(alloc, partial, "outputs")?;
     let reasons = some_texts(alloc, partial, "reasons")?;
@@ -223,13 +235,13 @@ fn changed_partly_of(alloc: Global, partial: &Value) -> Result<Reply, MsgIn>
 }
 
 /// A thing that is not there.
-fn gone_of(call: Call, gone: &Value) -> Result<Reply, MsgIn>
+fn gone_of(call: Call, gone: &Value) -> Result<Reply, Unread>
     ensures reply { IfOk result (λ reply. gone_of call (view gone.now) ≡ Some reply) }
-    ensures no_message { result ≡ Err MsgIn.NotAMessage → gone_of call (view gone.now) ≡ None }
+    ensures wrong_form { result ≡ Err Unread.WrongForm → gone_of call (view gone.now) ≡ None }
 {
     if call == Call::Read && gone.as_bool() == Some(true) {
         Ok(Reply::Gone)
     } else {
-        Err(MsgIn::NotAMessage)
+        Err(Unread::WrongForm)
     }
 }

@@ -10,9 +10,10 @@ ghost use Rattle.pl_provider_msg.specs.Request.{object_of};
 ghost use Rattle.pl_provider_msg.specs.Response.{compared_data, ok_data, partial_data, reply_data, reply_text};
 
 use crate::failure::MsgOut;
-use crate::members::{Members, fitting, put_fields, put_text, spell_reasons, spell_texts};
+use crate::members::{fitting, spell_reasons};
 use crate::words::changes_word;
 use pl_events::{Reasons, Reply};
+use pl_members::{Members, put_bool, put_fields, put_text, spell_texts};
 use pl_state::Diffed;
 use pl_value::{Bytes, Fields, OutOfMemory, Text, Texts};
 use serde_json::{Map, Value, json, put};
@@ -106,12 +107,8 @@ fn compared(alloc: Global, ticket: u64, told: &Diffed) -> Result<Value, OutOfMem
 {
     let mut members = Map::new(alloc);
     put_text(alloc, &mut members, "changes", changes_word(told.changes))?;
-    put(
-        &mut members,
-        alloc,
-        "delete_before_replace",
-        Value::Bool(told.delete_before_replace),
-    )?;
+    let first = told.delete_before_replace;
+    put_bool(alloc, &mut members, "delete_before_replace", first)?;
     let replaces = spell_texts(alloc, told.replaces.as_slice())?;
     put(&mut members, alloc, "replaces", replaces)?;
     done(alloc, ticket, members)

@@ -5,7 +5,7 @@ use Rattle.pl_world.specs.declared.trouble.Trouble.{Trouble}
 use Rattle.pl_world.specs.declared.trouble.Trouble.TheVariants as trouble
 use Rattle.pl_events.specs.declared.reply.Reply.{Reply}
 use Rattle.pl_events.specs.declared.reply.Reply.TheVariants.{Gone}
-use Rattle.pl_provider_msg.specs.Field.{Pairs}
+use Rattle.pl_members.specs.Field.{Pairs}
 use Rattle.pl_toy.specs.Table.{ForHeld, changed_unless_long, found_by, inputs_of, is_long, long_name, unless_long}
 use Rattle.pl_toy.specs.Things.{Became, IsKeptOrBecame, Things, no_things}
 
@@ -36,12 +36,6 @@ gone-empty (byte ∷ more) found empty = absurd (omega arith)
 pub gone-none : (id : List ℕ) → is_long id ≡ false → Gone ≡ unless_long id (found_by id None)
 gone-none [] short = refl
 gone-none (byte ∷ more) short = reply-short (byte ∷ more) Gone Gone short refl
-
--- nothing changes where the id is too long
-pub became-long : (told now : Option Things) (id : List ℕ) (change : Things → Things) → is_long id ≡ true → now ≡ told → Became (changed_unless_long id change) told now
-became-long None now id change long same = same
-became-long (Some held) now id change long same =
-    same ∙ sym (ap (λ (b : Bool). Some (cond {A = Things → Things} b (λ things. things) change held)) long)
 
 -- what a call that failed leaves
 pub OnFailed-over : (T U : Type 0) {P Q : Type 0} (trouble : Trouble) → (P → Q) → OnFailed {T = T} (Err trouble) P → OnFailed {T = U} (Err trouble) Q

@@ -5,6 +5,7 @@ use Rattle.std.proofs.lemmas.Bool.{cases_Bool, false≢true}
 use Rattle.std.proofs.lemmas.List.Folds.{find-append}
 use Rattle.std.proofs.lemmas.Slice.Eq.{bytes_eq-Decides}
 use Rattle.std.specs.Option.{option_or}
+use Rattle.pl_lemmas.proofs.Options.{mapped_or, or_none}
 use Rattle.pl_value.specs.Keys.{value_at}
 use Rattle.pl_toy.specs.Things.{Things, held_by, with_thing, with_new, without_thing}
 
@@ -61,14 +62,6 @@ value_at-others id other (x ∷ xs) =
           ∙ swapped (bytes_eq x.0 other) (bytes_eq id other) x.1 (value_at other xs) (apart_from x.0 id other differs)
           ∙ ap (λ (v : Option (List ℕ)). cond (bytes_eq id other) None v) (sym (value_at-cons other x xs))
     ]
-
-mapped_or : {X Y : Type 0} (f : X → Y) (a b : Option X) → option_map f (option_or a b) ≡ option_or (option_map f a) (option_map f b)
-mapped_or f None b = refl
-mapped_or f (Some x) b = refl
-
-or_none : {X : Type 0} (a : Option X) → option_or a None ≡ a
-or_none None = refl
-or_none (Some x) = refl
 
 or_last : (b : Bool) (x : List ℕ) (v : Option (List ℕ)) → option_or (cond b None v) (cond b (Some x) None) ≡ cond b (Some x) v
 or_last true x v = refl

@@ -64,26 +64,6 @@ IsTaken told id = (is_long id ≡ false) × IfSome told (λ held. is_none (held 
 abbrev pub AreTaken : Option Things → List ℕ → ℕ → Type 0
 AreTaken told name n = (j : ℕ) → 1 ≤ j → j < n → IsTaken told (numbered name j)
 
-pub AreTaken-none : (told : Option Things) (name : List ℕ) → AreTaken told name 1
-AreTaken-none told name j from below = absurd (omega arith)
-
-pub AreTaken-more : (told : Option Things) (name : List ℕ) (n : ℕ) → AreTaken told name n → IsTaken told (numbered name n) → AreTaken told name (n + 1)
-AreTaken-more told name n before here j from below =
-    elim (cases_lt j n) [
-      | inl earlier ↦ before j from earlier
-      | inr last ↦ let e : n ≡ j = omega arith in subst (λ (k : ℕ). IsTaken told (numbered name k)) e here
-    ]
-
--- a thing that is there is taken
-pub IsTaken-from : (told : Option Things) (id : List ℕ) → is_long id ≡ false → IfSome told (λ held. false ≡ is_none (held id)) → IsTaken told id
-IsTaken-from None id short there = (short, tt)
-IsTaken-from (Some held) id short there = (short, sym there)
-
--- nothing changes where a thing is there
-pub stays-there : (told now : Option Things) (id bytes : List ℕ) → IfSome told (λ held. false ≡ is_none (held id)) → Became (with_new id bytes) told now → now ≡ told
-stays-there None now id bytes there became = became
-stays-there (Some held) now id bytes there became = became ∙ ap Some (with_new-some id bytes held (sym there))
-
 -- ---- the place of a new thing
 
 ends_at_short : (held : Things) (id : List ℕ) → is_long id ≡ false → ends_search held id ≡ is_none (held id)

@@ -1,23 +1,21 @@
-ghost use Rattle.std.specs.Prelude.{◌≡◌, ◌↔◌, ◌<◌, ◌≤◌, codes, IfOk, IsTrue, length, OnErr, OnOk, option_map, Some};
+ghost use Rattle.std.specs.Prelude.{◌≡◌, ◌↔◌, ◌<◌, ◌≤◌, codes, IfOk, IsTrue, length, OnErr, OnOk, Some, None, Err};
 ghost use Rattle.std.specs.Option.{option_copied};
-ghost use Rattle.serde_json.specs.View.{view};
 ghost use Rattle.pl_value.specs.Keys.{value_at};
 ghost use Rattle.pl_value.specs.Same.{fields_same};
 ghost use Rattle.pl_world.specs.Counts.{Rose};
 ghost use Rattle.pl_world.specs.Causes.{OnFailed, OnNoMemory};
 ghost use Rattle.pl_json.specs.Spelled.{fields_text};
 ghost use Rattle.pl_toy.specs.Things.{Became, IsKeptOrBecame, with_thing, without_thing};
-ghost use Rattle.pl_provider_msg.specs.Field.{json_of, pairs_of};
 ghost use Rattle.pl_toy.specs.Table.{changed_unless_long, checked_by, diff_of, ForHeld, found_by, inputs_of, IsByTable, IsReplied, is_set, same_if_there, toy_things, unless_long};
 
 use crate::create::{create, is_long};
 use crate::shelf::Shelf;
 use pl_events::{Ask, Reasons, Reply};
-use pl_json::{FieldsFault, read_fields, text_of_fields};
+use pl_json::text_of_fields;
+use pl_members::{Unread, json_of, pairs_of};
 use pl_state::{Changes, Diffed};
-use pl_value::{Fields, JsonFault, OutOfMemory, Text, Texts, Value};
+use pl_value::{Fields, OutOfMemory, Text, Texts, Value};
 use pl_world::Trouble;
-use serde_json::Value as Json;
 use std::alloc::Global;
 
 /// The reply to a call, which is carried out over the shelf. A fault of the shelf is the reply of the error `shelf`; what
@@ -223,33 +221,18 @@ fn found(alloc: Global, id: &Text, bytes: &[u8]) -> Result<Reply, OutOfMemory>
 fn inputs_in(alloc: Global, bytes: &[u8]) -> Result<Option<Fields>, OutOfMemory>
     ensures { IfOk result (λ inputs. inputs ≡ inputs_of (Some bytes.now)) }
 {
-    let Some(json) = json_in(alloc, bytes)? else {
-        return Ok(None);
-    };
-    fields_in(alloc, &json)
-}
-
-fn json_in(alloc: Global, bytes: &[u8]) -> Result<Option<Json>, OutOfMemory>
-    ensures { IfOk result (λ json. option_map view json ≡ json_of bytes.now) }
-{
-    match Json::from_slice(alloc, bytes) {
-        Ok(json) => Ok(Some(json)),
-        Err(error) => {
-            if error.is_memory() {
-                Err(OutOfMemory)
-            } else {
-                Ok(None)
-            }
-        }
-    }
-}
-
-fn fields_in(alloc: Global, json: &Json) -> Result<Option<Fields>, OutOfMemory>
-    ensures { IfOk result (λ inputs. inputs ≡ pairs_of (view json.now)) }
-{
-    match read_fields(alloc, json, "") {
+    match pairs_in(alloc, bytes) {
         Ok(fields) => Ok(Some(fields)),
-        Err(FieldsFault::Json(JsonFault::OutOfMemory)) => Err(OutOfMemory),
-        Err(_) => Ok(None),
+        Err(Unread::WrongForm) => Ok(None),
+        Err(Unread::OutOfMemory) => Err(OutOfMemory),
     }
+}
+
+/// The object of values that the bytes spell.
+fn pairs_in(alloc: Global, bytes: &[u8]) -> Result<Fields, Unread>
+    ensures read { IfOk result (λ fields. inputs_of (Some bytes.now) ≡ Some fields) }
+    ensures wrong_form { result ≡ Err Unread.WrongForm → inputs_of (Some bytes.now) ≡ None }
+{
+    let json = json_of(alloc, bytes)?;
+    pairs_of(alloc, &json)
 }

@@ -1,8 +1,6 @@
 //! One exchange with a provider child: a request goes out as one frame, and one frame comes back.
 #![tactic(auto)]
 
-#[cfg(test)]
-mod tests;
 mod wire;
 
 pub use wire::exchange;

@@ -1,7 +1,8 @@
-use Rattle.std.proofs.Common.{◌≡◌, ℕ, ◌+◌, drop, sym, ap, ◌∙◌}
+use Rattle.std.proofs.Common.{◌+◌, drop, sym, ap, ◌∙◌}
 use Rattle.serde_json.specs.View.{view, items_view}
-use Rattle.pl_program_file.proofs.OneByOne.{after, read_next}
-use Rattle.pl_program_file.specs.Field.{each_item}
+use Rattle.pl_members.proofs.Items.{after}
+use Rattle.pl_program_file.proofs.OneByOne.{read_next}
+use Rattle.pl_members.specs.Field.{each_item}
 use Rattle.pl_program_file.specs.Read.{resource_read}
 use Rattle.pl_program_file.proofs.reading.each_resource.Goals as goal
 

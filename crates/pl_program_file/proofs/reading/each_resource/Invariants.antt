@@ -1,8 +1,8 @@
 use Rattle.std.proofs.Common.{◌≡◌, drop}
 use Rattle.serde_json.specs.View.{items_view}
-use Rattle.pl_program_file.specs.Field.{each_item}
+use Rattle.pl_members.specs.Field.{each_item}
 use Rattle.pl_program_file.specs.Read.{resource_read}
-use Rattle.pl_program_file.proofs.OneByOne.{after}
+use Rattle.pl_members.proofs.Items.{after}
 use Rattle.pl_program_file.proofs.reading.each_resource.Given as goal
 
 -- what is read of the whole is what was read of the first ones, and then the rest

@@ -1,0 +1,12 @@
+pub mod HeldData
+pub mod InPlace
+pub mod Items
+pub mod JsonTexts
+pub mod KindsBack
+pub mod KindsGood
+pub mod NoFloats
+pub mod Outlines
+pub mod PlainPairs
+pub mod ReadValues
+pub mod Shapes
+pub mod Steps

@@ -1,9 +1,0 @@
-use Rattle.std.proofs.Common.{◌≡◌, drop}
-use Rattle.serde_json.specs.View.{items_view}
-use Rattle.pl_provider_msg.specs.Field.{each_item, reason_of}
-use Rattle.pl_provider_msg.proofs.Items.{after}
-use Rattle.pl_provider_msg.proofs.lists.each_reason.Given as goal
-
--- what is read of the whole is what was read of the first ones, and then the rest
-abbrev pub invariant-loop-item : goal.invariant-loop-item
-invariant-loop-item l = each_item reason_of (items_view l.items) ≡ after l.reasons (each_item reason_of (items_view (drop l.item-index l.items)))
