@@ -7,7 +7,8 @@ use Rattle.std.specs.List.{starts_with}
 use Rattle.pl_urn.specs.Grammar.{IsScope, IsUrn, child_fault, child_text, is_provider_type, provider_prefix, urn_fault}
 use Rattle.pl_urn.proofs.Children.{IsUrn-child, own_type_of-child}
 use Rattle.pl_options.specs.GoalOf.{goal_of, option_fault, plain_goal_of}
-use Rattle.pl_state.specs.Component.{has_none, has_no_flags, has_no_lists, has_no_names, is_plain, plain_goal, plain_registration}
+use Rattle.pl_lemmas.specs.Words.{has_none}
+use Rattle.pl_state.specs.Component.{has_no_flags, has_no_lists, has_no_names, is_plain, plain_goal, plain_registration}
 use Rattle.pl_state.specs.Kinds.{is_of_provider}
 use Rattle.pl_state.specs.declared.goal.Goal.{Goal}
 use Rattle.pl_state.specs.declared.goal.Registration.{Registration}

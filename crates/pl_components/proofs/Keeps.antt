@@ -5,7 +5,7 @@ use Rattle.std.proofs.lemmas.Slice.Eq.{bytes_eq-Decides}
 use Rattle.std.proofs.lemmas.List.{reverse-append}
 use Rattle.std.proofs.lemmas.List.Folds.{list_any-append}
 use Rattle.std.specs.List.{cons_option, list_any}
-use Rattle.pl_state.specs.Chain.{some_passes}
+use Rattle.pl_lemmas.specs.Words.{has_number, none_or, number_where, some_passes}
 use Rattle.pl_state.specs.Component.{plain_goal}
 use Rattle.pl_state.specs.Kinds.{is_of_provider}
 use Rattle.pl_state.specs.declared.entry.Entry.{Entry}
@@ -15,10 +15,10 @@ use Rattle.pl_events.specs.declared.event.Request.{Request}
 use Rattle.pl_events.specs.declared.event.Request.TheVariants.{Register, Outputs, Invoke}
 use Rattle.pl_events.specs.declared.event.What.{What}
 use Rattle.pl_events.specs.declared.event.What.TheVariants.{Told, HostGone, Begun, Answered, Lost, Kept, Dropped, Cleared, Posted, Stopped}
-use Rattle.pl_model.specs.Claims.{goal_number, number_where}
-use Rattle.pl_model.specs.Recording.{has_number, recorded_of}
+use Rattle.pl_model.specs.Claims.{goal_number}
+use Rattle.pl_model.specs.Recording.{recorded_of}
 use Rattle.pl_model.specs.Known.{Known}
-use Rattle.pl_model.specs.Due.{is_keep_ready, is_recorded_urn, keeps_goal, none_or}
+use Rattle.pl_model.specs.Due.{is_keep_ready, is_recorded_urn, keeps_goal}
 use Rattle.pl_model.specs.Run.{Spelling}
 use Rattle.pl_components.specs.Run.{Fixed}
 use Rattle.pl_components.specs.Problems.{has_problem}

@@ -5,7 +5,7 @@ use Rattle.std.specs.List.{cons_option, list_any}
 use Rattle.pl_urn.specs.Grammar.{IsScope}
 use Rattle.pl_state.specs.declared.fault.OptionFault.{OptionFault}
 use Rattle.pl_state.specs.Component.{plain_goal, plain_registration}
-use Rattle.pl_state.specs.References.{option_list}
+use Rattle.pl_lemmas.specs.Words.{number_where, option_list}
 use Rattle.pl_state.specs.declared.goal.Goal.{Goal}
 use Rattle.pl_state.specs.declared.goal.Registration.{Registration}
 use Rattle.pl_events.specs.declared.event.Event.{Event}
@@ -20,7 +20,7 @@ use Rattle.pl_model.specs.declared.errand.Errand.{Errand}
 use Rattle.pl_model.specs.declared.heard.Fate.{Fate}
 use Rattle.pl_model.specs.declared.heard.Fate.TheVariants.{Accepted as accepted, Halted as halted}
 use Rattle.pl_model.specs.declared.heard.Heard.{Heard}
-use Rattle.pl_model.specs.Claims.{goal_number, number_where}
+use Rattle.pl_model.specs.Claims.{goal_number}
 use Rattle.pl_model.specs.Tickets.{answers_of, begun_of, closed_by, errand_by}
 use Rattle.pl_model.specs.Known.{Known, known_with, number_of}
 use Rattle.pl_model.specs.Requests as requests

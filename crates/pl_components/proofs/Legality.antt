@@ -3,7 +3,7 @@ use Rattle.std.proofs.Common.{◌≡◌, ℕ, ◌<◌, ◌==◌, Bool, true, fal
 use Rattle.std.proofs.lemmas.Bool.Decides.{nat_tests}
 use Rattle.std.proofs.lemmas.List.{length-map, length-reverse}
 use Rattle.std.proofs.lemmas.Slice.Eq.{bytes_eq-Decides}
-use Rattle.pl_state.specs.Chain.{some_passes}
+use Rattle.pl_lemmas.specs.Words.{has_number, some_passes}
 use Rattle.pl_state.specs.Kinds.{is_provider_goal}
 use Rattle.pl_state.specs.declared.entry.Entry.{Entry}
 use Rattle.pl_state.specs.declared.goal.Goal.{Goal}
@@ -15,7 +15,7 @@ use Rattle.pl_events.specs.declared.event.Stop.{Stop}
 use Rattle.pl_events.specs.declared.event.Stop.TheVariants as stopped
 use Rattle.pl_events.specs.declared.event.What.{What}
 use Rattle.pl_events.specs.declared.event.What.TheVariants.{Told, HostGone, Begun, Answered, Lost, Kept, Dropped, Cleared, Posted, Stopped}
-use Rattle.pl_model.specs.Recording.{has_number, recorded_of}
+use Rattle.pl_model.specs.Recording.{recorded_of}
 use Rattle.pl_model.specs.Claims.{goal_number, id_of_row, usable_id}
 use Rattle.pl_model.specs.Known.{Known, asked_at, number_of}
 use Rattle.pl_model.specs.Known as known_specs

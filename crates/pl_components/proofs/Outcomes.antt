@@ -10,7 +10,7 @@ use Rattle.pl_model.specs.Known.{Known}
 use Rattle.pl_model.specs.History.{is_no_want, problem_of}
 use Rattle.pl_model.specs.Outcomes.{outcome_of_placed, outcome_of_problem}
 use Rattle.pl_model.specs.Problems.{at_position}
-use Rattle.pl_state.specs.References.{option_list}
+use Rattle.pl_lemmas.specs.Words.{option_list}
 use Rattle.pl_model.specs.Run.{Spelling}
 use Rattle.pl_components.specs.Run.{Fixed}
 use Rattle.pl_components.specs.Problems.{first_of, least_outcome, outcome_of_event, problem_of_event}

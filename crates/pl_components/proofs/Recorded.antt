@@ -14,8 +14,8 @@ use Rattle.pl_events.specs.declared.event.What.{What}
 use Rattle.pl_events.specs.declared.event.What.TheVariants.{Told, HostGone, Begun, Answered, Lost, Kept, Dropped, Cleared, Posted, Stopped}
 use Rattle.pl_model.specs.declared.decided.Decided.{Decided}
 use Rattle.pl_model.specs.declared.errand.Closed.{Closed}
-use Rattle.pl_model.specs.Claims.{numbered}
-use Rattle.pl_model.specs.Recording.{has_number, kept_by, only_if, recorded_by_reply, recorded_of}
+use Rattle.pl_lemmas.specs.Words.{has_number, numbered, only_if}
+use Rattle.pl_model.specs.Recording.{kept_by, recorded_by_reply, recorded_of}
 use Rattle.pl_model.specs.Known.{Known}
 use Rattle.pl_model.specs.Entries.{Result, goal_entry, recorded_entry, result_kept, result_with, told_by, told_outputs, with_outputs}
 use Rattle.pl_model.specs.Entries as entries

@@ -7,7 +7,8 @@ use Rattle.pl_events.specs.declared.event.Request.TheVariants.{Register, Outputs
 use Rattle.pl_events.specs.declared.event.What.{What}
 use Rattle.pl_events.specs.declared.event.What.TheVariants.{Told, HostGone, Begun, Answered, Lost, Kept, Dropped, Cleared, Posted, Stopped}
 use Rattle.pl_model.specs.Known.{Known, asked_at}
-use Rattle.pl_model.specs.Recording.{has_number, posted_of}
+use Rattle.pl_lemmas.specs.Words.{has_number}
+use Rattle.pl_model.specs.Recording.{posted_of}
 use Rattle.pl_model.specs.History.{known_of}
 use Rattle.pl_model.specs.Saves as saves
 use Rattle.pl_model.specs.State as state

@@ -13,8 +13,7 @@ use Rattle.pl_events.specs.declared.event.Request.TheVariants.{Register, Outputs
 use Rattle.pl_events.specs.declared.event.What.{What}
 use Rattle.pl_events.specs.declared.event.What.TheVariants.{Told, HostGone, Begun, Answered, Lost, Kept, Dropped, Cleared, Posted, Stopped}
 use Rattle.pl_model.specs.Run.{Pairs}
-use Rattle.pl_model.specs.Claims.{first_some}
-use Rattle.pl_model.specs.Recording.{has_number, only_if}
+use Rattle.pl_lemmas.specs.Words.{first_some, has_number, only_if}
 use Rattle.pl_model.specs.declared.errand.Opened.{Opened}
 use Rattle.pl_model.specs.declared.heard.Heard.{Heard}
 use Rattle.pl_model.specs.Known.{Known}

@@ -8,7 +8,8 @@ use Rattle.pl_events.specs.declared.event.Request.{Request}
 use Rattle.pl_events.specs.declared.event.Request.TheVariants.{Register, Outputs, Invoke}
 use Rattle.pl_events.specs.declared.event.What.{What}
 use Rattle.pl_events.specs.declared.event.What.TheVariants.{Told, HostGone, Begun, Answered, Lost, Kept, Dropped, Cleared, Posted, Stopped}
-use Rattle.pl_model.specs.Recording.{has_number, posted_of}
+use Rattle.pl_lemmas.specs.Words.{has_number}
+use Rattle.pl_model.specs.Recording.{posted_of}
 use Rattle.pl_model.specs.declared.heard.Heard.{Heard}
 use Rattle.pl_model.specs.Known.{Known, asked_at, number_of}
 use Rattle.pl_model.specs.Known as known

@@ -4,7 +4,7 @@ use Rattle.std.proofs.lemmas.Bool.Decides.{nat_tests}
 use Rattle.std.proofs.lemmas.List.{length-map}
 use Rattle.std.proofs.lemmas.List.Folds.{list_any-append}
 use Rattle.std.specs.List.{list_any}
-use Rattle.pl_state.specs.Chain.{some_passes}
+use Rattle.pl_lemmas.specs.Words.{has_number, only_if, some_passes}
 use Rattle.pl_state.specs.Component.{plain_goal}
 use Rattle.pl_state.specs.declared.entry.Entry.{Entry}
 use Rattle.pl_state.specs.declared.goal.Goal.{Goal}
@@ -26,7 +26,7 @@ use Rattle.pl_model.specs.declared.work.Work.{Work}
 use Rattle.pl_model.specs.declared.work.Work.TheVariants.{Clear as to_clear, Drop as to_drop, Keep as to_keep, Post as to_post, Send as to_send}
 use Rattle.pl_model.specs.Decisions.{turn_in}
 use Rattle.pl_model.specs.Tickets.{is_closed, is_coming, is_source, lane_free, lanes_from, open_errands}
-use Rattle.pl_model.specs.Recording.{has_number, only_if, posted_of, recorded_of}
+use Rattle.pl_model.specs.Recording.{posted_of, recorded_of}
 use Rattle.pl_model.specs.Known.{Known, asked_at, next_turn}
 use Rattle.pl_model.specs.Known as known_specs
 use Rattle.pl_model.specs.Entries as entries
@@ -35,7 +35,8 @@ use Rattle.pl_model.specs.Due.{added_by, claim_leaves, count_of, due_work, for_d
 use Rattle.pl_model.specs.Due as due
 use Rattle.pl_model.specs.Rows.{has_dependents, is_doomed, is_left, is_sent, is_taken_out, is_taken_over, is_target, row_numbers, takes_along, was_removed}
 use Rattle.pl_model.specs.Posts.{answer_for, answer_or, registered}
-use Rattle.pl_model.specs.Run.{Spelling, most_resources}
+use Rattle.pl_model.specs.Run.{Spelling}
+use Rattle.pl_state.specs.Formed.{most_resources}
 use Rattle.pl_components.specs.Run.{Fixed}
 use Rattle.pl_components.specs.Problems.{has_problem}
 use Rattle.pl_components.specs.Requests.{goal_at, goals_of, is_waiting, made_by, made_for, waiting_of}

@@ -6,7 +6,9 @@ use Rattle.pl_events.specs.declared.event.Event.{Event}
 use Rattle.pl_events.specs.declared.event.Answer.{Answer}
 use Rattle.pl_events.specs.declared.event.Answer.TheVariants.{Registered}
 use Rattle.pl_events.specs.Halted.{halted}
-use Rattle.pl_model.specs.Run.{Spelling, longest_body, most_resources}
+use Rattle.pl_model.specs.Run.{Spelling}
+use Rattle.pl_world.specs.declared.frames.TheConstants.{MAX_BODY}
+use Rattle.pl_state.specs.Formed.{most_resources}
 use Rattle.pl_components.specs.Run.{Fixed}
 use Rattle.pl_components.specs.Problems.{has_problem}
 use Rattle.pl_components.specs.Requests.{goals_of, goal_at, waiting_of, is_waiting, made_for}
@@ -29,7 +31,7 @@ answer_for (Some goal) = Registered goal.urn None []
 
 -- whether the answer of request n would have a longer body than a frame may have
 abbrev pub is_too_long : Spelling → ℕ → Answer → Bool
-is_too_long spelling n answer = nat_lt longest_body (length (spelling.answer_text n answer))
+is_too_long spelling n answer = nat_lt MAX_BODY (length (spelling.answer_text n answer))
 
 -- the answer to request n: its result, or that it was halted; after a problem a result that would be
 -- too long is halted too

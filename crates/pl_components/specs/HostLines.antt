@@ -11,7 +11,8 @@ use Rattle.pl_events.specs.declared.event.HostEnd.{HostEnd}
 use Rattle.pl_events.specs.declared.event.HostEnd.TheVariants.{Success, Error, Ended, PipeFault, BadFrame, NoMemory}
 use Rattle.pl_model.specs.Run.{Spelling}
 use Rattle.pl_model.specs.Frames.{Causes, IsBad, IsBadFrame, IsBadLength}
-use Rattle.pl_model.specs.Recording.{has_number, posted_of}
+use Rattle.pl_lemmas.specs.Words.{has_number}
+use Rattle.pl_model.specs.Recording.{posted_of}
 use Rattle.pl_components.specs.Run.{Fixed}
 use Rattle.pl_components.specs.Requests.{may_be_next}
 use Rattle.pl_components.specs.Due.{answer_of, is_post_due}

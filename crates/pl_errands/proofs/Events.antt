@@ -1,14 +1,15 @@
 -- What the plain events of tickets tell.
 use Rattle.std.proofs.Common.{◌≡◌, ℕ, ◌==◌, Bool, true, false, ◌||◌, if◌then◌else◌, List, [], ◌∷◌, ◌++◌, map, Some, None, refl, ◌∙◌, ap}
 use Rattle.std.specs.List.{list_any}
+use Rattle.std.proofs.Math.Bool.{or-false}
+use Rattle.pl_lemmas.proofs.Truth.{or_either}
 use Rattle.pl_events.specs.declared.event.Event.{Event}
 use Rattle.pl_events.specs.declared.reply.Reply.TheVariants.{Configured, Error}
 use Rattle.pl_model.specs.declared.errand.Errand.{Errand}
 use Rattle.pl_model.specs.Tickets.{begun_of, has_configured, is_closed, is_configured_reply, loses}
-use Rattle.pl_model.specs.Recording.{has_number}
+use Rattle.pl_lemmas.specs.Words.{has_number}
 use Rattle.pl_model.specs.Step.{plain_begin, plain_loss, plain_reply, plain_word}
 use Rattle.pl_errands.specs.Tickets.{Tickets, events_of}
-use Rattle.pl_errands.proofs.Lists.{or_either, or_no}
 
 -- ---- events of one kind
 
@@ -63,7 +64,7 @@ lost_read tickets ticket =
     (passed_over (loses_in ticket) plain_word (λ x past. refl) tickets.configured (replies tickets)
     ∙ passed_over (loses_in ticket) plain_reply (λ x past. refl) tickets.answered (map plain_begin tickets.begun)
     ∙ none_begun (loses_in ticket) false refl (λ x past. refl) tickets.begun)
-    ∙ or_no (has_number tickets.lost ticket)
+    ∙ or-false (has_number tickets.lost ticket)
 
 -- whether a ticket is closed: it was lost, or answered by that word or another
 abbrev pub is_closed_in : Tickets → ℕ → Bool
@@ -81,7 +82,7 @@ closed_read tickets ticket =
     ∙ ap (λ (b : Bool). has_number tickets.configured ticket || b)
     (any_listed (closes_in ticket) plain_reply (λ other. other == ticket) (λ x past. refl) tickets.answered (map plain_begin tickets.begun)
     ∙ ap (λ (b : Bool). has_number tickets.answered ticket || b) (none_begun (closes_in ticket) false refl (λ x past. refl) tickets.begun)
-    ∙ or_no (has_number tickets.answered ticket)))
+    ∙ or-false (has_number tickets.answered ticket)))
 
 says_word : (b : Bool) → is_configured_reply (if b then Some Configured else None) ≡ b
 says_word true = refl
@@ -103,4 +104,4 @@ configured_read tickets errand =
     (passed_over (configures_in errand) plain_reply
     (λ ticket past. ap (λ (b : Bool). b || configures_in errand past) (says_none (ticket == errand.ticket))) tickets.answered (map plain_begin tickets.begun)
     ∙ none_begun (configures_in errand) false refl (λ x past. refl) tickets.begun)
-    ∙ or_no (has_number tickets.configured errand.ticket)
+    ∙ or-false (has_number tickets.configured errand.ticket)

@@ -7,8 +7,10 @@ use Rattle.std.proofs.lemmas.List.Sums.{get_or-le-sum_by, sum_by-set, sum_by_pus
 use Rattle.std.proofs.lemmas.Option.{get_or_from_slice_get, slice_get-map, slice_get_past, slice_get_within}
 use Rattle.std.specs.List.{count_by, find, list_any, slice_get, slice_set}
 use Rattle.std.specs.Option.{option_or}
+use Rattle.std.proofs.Math.Bool.{and-false, and-true}
+use Rattle.pl_lemmas.proofs.Options.{or_none}
 use Rattle.pl_value.specs.Inside.{greatest}
-use Rattle.pl_state.specs.Chain.{some_passes}
+use Rattle.pl_lemmas.specs.Words.{some_passes}
 use Rattle.pl_events.specs.declared.operation.Source.{Source}
 use Rattle.pl_model.specs.declared.errand.Errand.{Errand}
 use Rattle.pl_model.specs.Tickets.{source_begun}
@@ -18,7 +20,7 @@ use Rattle.pl_errands.specs.declared.row.Standing.{Standing}
 use Rattle.pl_errands.specs.declared.row.Standing.TheVariants as standing
 use Rattle.pl_errands.specs.Rows.{is_configured, is_lost, is_open, is_open_row}
 use Rattle.pl_errands.specs.Lanes.{AgreeLanes, changed_at, closed_by, errands_in, first_source, is_out_lane, new_lane, one_more, out_of}
-use Rattle.pl_errands.proofs.Lists.{and_no, and_yes, any-found, any-push, any-set, get-push, get-set, get-set_same, greatest-push, map-set_same, option_map-option_or, or_none, passes-push, passes-set, set-length}
+use Rattle.pl_errands.proofs.Lists.{any-found, any-push, any-set, get-push, get-set, get-set_same, greatest-push, map-set_same, option_map-option_or, passes-push, passes-set, set-length}
 
 abbrev pub is_on : ℕ → Row → Bool
 is_on lane row = row.errand.lane == lane && is_open_row row
@@ -64,19 +66,19 @@ module _ (rows : List Row) (lanes : List Lane) (errand : Errand) (agree : AgreeL
   more_out : (lane : ℕ) → count_by (is_on lane) (rows ++ more ∷ []) ≡ out_of (slice_get lanes lane) + cond (errand.lane == lane) 1 0
   more_out lane =
       sum_by_push (λ row. cond (is_on lane row) 1 0) rows more
-      ∙ ap (λ (b : Bool). count_by (is_on lane) rows + cond b 1 0) (and_yes (errand.lane == lane))
+      ∙ ap (λ (b : Bool). count_by (is_on lane) rows + cond b 1 0) (and-true (errand.lane == lane))
       ∙ ap (λ (n : ℕ). n + cond (errand.lane == lane) 1 0) (agree.out lane)
 
   more_configured : (lane : ℕ) → list_any (λ row. row.errand.lane == lane && is_configured row.standing) (rows ++ more ∷ [])
       ≡ some_passes (λ one. one.configured) (slice_get lanes lane)
   more_configured lane =
-      any-push (λ row. row.errand.lane == lane && is_configured row.standing) rows more (and_no (errand.lane == lane))
+      any-push (λ row. row.errand.lane == lane && is_configured row.standing) rows more (and-false (errand.lane == lane))
       ∙ agree.configured lane
 
   more_lost : (lane : ℕ) → list_any (λ row. row.errand.lane == lane && is_lost row.standing) (rows ++ more ∷ [])
       ≡ some_passes (λ one. one.lost) (slice_get lanes lane)
   more_lost lane =
-      any-push (λ row. row.errand.lane == lane && is_lost row.standing) rows more (and_no (errand.lane == lane))
+      any-push (λ row. row.errand.lane == lane && is_lost row.standing) rows more (and-false (errand.lane == lane))
       ∙ agree.lost lane
 
   -- on a lane that is there
@@ -118,11 +120,11 @@ module _ (rows : List Row) (lanes : List Lane) (errand : Errand) (agree : AgreeL
       configured = λ lane.
           more_configured lane
           ∙ sym (passes-set (λ one. one.configured) false lanes errand.lane was (one_more was) is refl lane
-          ∙ ap (λ (b : Bool). b || some_passes (λ one. one.configured) (slice_get lanes lane)) (and_no (errand.lane == lane)));
+          ∙ ap (λ (b : Bool). b || some_passes (λ one. one.configured) (slice_get lanes lane)) (and-false (errand.lane == lane)));
       lost = λ lane.
           more_lost lane
           ∙ sym (passes-set (λ one. one.lost) false lanes errand.lane was (one_more was) is refl lane
-          ∙ ap (λ (b : Bool). b || some_passes (λ one. one.lost) (slice_get lanes lane)) (and_no (errand.lane == lane)));
+          ∙ ap (λ (b : Bool). b || some_passes (λ one. one.lost) (slice_get lanes lane)) (and-false (errand.lane == lane)));
     }
 
   -- on the next lane
@@ -229,12 +231,12 @@ module _ (rows : List Row) (lanes : List Lane) (ticket : ℕ) (errand : Errand) 
           let at : cond (is_on lane (get_or rows ticket begun)) 1 0 ≡ cond (is_on lane begun) 1 0 =
           ap (λ one. cond (is_on lane one) 1 0) (get_or_from_slice_get rows ticket begun begun is) in
           let before : cond (is_on lane begun) 1 0 ≡ cond b 1 0 =
-          ap (λ (c : Bool). cond c 1 0) (and_yes (errand.lane == lane) ∙ same) in
+          ap (λ (c : Bool). cond c 1 0) (and-true (errand.lane == lane) ∙ same) in
           let written : count_by (is_on lane) rows_after + cond (is_on lane (get_or rows ticket begun)) 1 0
           ≡ count_by (is_on lane) rows + cond (is_on lane row) 1 0 =
           sum_by-set (λ one. cond (is_on lane one) 1 0) rows ticket row begun inside in
           let none : cond (is_on lane row) 1 0 ≡ 0 =
-          ap (λ (c : Bool). cond ((errand.lane == lane) && c) 1 0) fails ∙ ap (λ (c : Bool). cond c 1 0) (and_no (errand.lane == lane)) in
+          ap (λ (c : Bool). cond ((errand.lane == lane) && c) 1 0) fails ∙ ap (λ (c : Bool). cond c 1 0) (and-false (errand.lane == lane)) in
           let e : count_by (is_on lane) rows_after + cond b 1 0 ≡ count_by (is_on lane) rows + 0 =
           ap (λ (n : ℕ). count_by (is_on lane) rows_after + n) (sym (at ∙ before)) ∙ written
           ∙ ap (λ (n : ℕ). count_by (is_on lane) rows + n) none in
@@ -262,11 +264,11 @@ module _ (rows : List Row) (lanes : List Lane) (ticket : ℕ) (errand : Errand) 
             less_out lane (errand.lane == lane) refl
             ∙ sym (ap out_of (get-set lanes errand.lane was (closed_by became was) there lane));
         configured = λ lane.
-            any-set (λ one. one.errand.lane == lane && is_configured one.standing) rows ticket begun row is (and_no (errand.lane == lane))
+            any-set (λ one. one.errand.lane == lane && is_configured one.standing) rows ticket begun row is (and-false (errand.lane == lane))
             ∙ ap (λ (b : Bool). ((errand.lane == lane) && is_configured became) || b) (agree.configured lane)
             ∙ sym (passes-set (λ one. one.configured) (is_configured became) lanes errand.lane was (closed_by became was) there refl lane);
         lost = λ lane.
-            any-set (λ one. one.errand.lane == lane && is_lost one.standing) rows ticket begun row is (and_no (errand.lane == lane))
+            any-set (λ one. one.errand.lane == lane && is_lost one.standing) rows ticket begun row is (and-false (errand.lane == lane))
             ∙ ap (λ (b : Bool). ((errand.lane == lane) && is_lost became) || b) (agree.lost lane)
             ∙ sym (passes-set (λ one. one.lost) (is_lost became) lanes errand.lane was (closed_by became was) there refl lane);
       }

@@ -6,30 +6,11 @@ use Rattle.std.proofs.lemmas.List.Folds.{list_any-append}
 use Rattle.std.proofs.lemmas.List.Sums.{sum_by-append, sum_by-cons}
 use Rattle.std.specs.List.{count_by, filter, find, list_any, slice_get, slice_set, sum_by}
 use Rattle.std.specs.Option.{option_or}
+use Rattle.std.proofs.Math.Bool.{or-false, or_comm}
+use Rattle.std.proofs.lemmas.Option.{same_Some}
+use Rattle.pl_lemmas.proofs.Truth.{or_either}
 use Rattle.pl_value.specs.Inside.{greatest}
-use Rattle.pl_state.specs.Chain.{some_passes}
-
-pub or_no : (a : Bool) → (a || false) ≡ a
-or_no true = refl
-or_no false = refl
-
-pub or_turned : (a b : Bool) → (a || b) ≡ (b || a)
-or_turned true true = refl
-or_turned true false = refl
-or_turned false true = refl
-or_turned false false = refl
-
-pub or_either : (a b c : Bool) → (a || (b || c)) ≡ ((a || b) || c)
-or_either true b c = refl
-or_either false b c = refl
-
-pub and_no : (a : Bool) → (a && false) ≡ false
-and_no true = refl
-and_no false = refl
-
-pub and_yes : (a : Bool) → (a && true) ≡ a
-and_yes true = refl
-and_yes false = refl
+use Rattle.pl_lemmas.specs.Words.{some_passes}
 
 zero_suc : (k : ℕ) → (0 == suc k) ≡ false
 zero_suc k = grind (arith, nat_tests)
@@ -37,23 +18,10 @@ zero_suc k = grind (arith, nat_tests)
 suc_zero : (k : ℕ) → (suc k == 0) ≡ false
 suc_zero k = grind (arith, nat_tests)
 
-pub or_none : {X : Type 0} (o : Option X) → option_or o None ≡ o
-or_none None = refl
-or_none (Some x) = refl
-
 -- ---- the other way round
 
 pub reverse-cons : {X : Type 0} (x : X) (xs : List X) → reverse (x ∷ xs) ≡ reverse xs ++ x ∷ []
 reverse-cons x xs = reverse-append (x ∷ []) xs
-
-pub any-reverse : {X : Type 0} (p : X → Bool) (xs : List X) → list_any p (reverse xs) ≡ list_any p xs
-any-reverse p [] = refl
-any-reverse p (x ∷ xs) =
-    ap (list_any p) (reverse-cons x xs)
-    ∙ list_any-append p (reverse xs) (x ∷ [])
-    ∙ ap (λ (b : Bool). list_any p (reverse xs) || b) (or_no (p x))
-    ∙ ap (λ (b : Bool). b || p x) (any-reverse p xs)
-    ∙ or_turned (list_any p xs) (p x)
 
 pub sum-reverse : {X : Type 0} (f : X → ℕ) (xs : List X) → sum_by f (reverse xs) ≡ sum_by f xs
 sum-reverse f [] = refl
@@ -65,9 +33,6 @@ sum-reverse f (x ∷ xs) =
     ap (sum_by f) (reverse-cons x xs)
     ∙ sum_by-append f (reverse xs) (x ∷ [])
     ∙ omega arith
-
-max_turned : (a b : ℕ) → max a b ≡ max b a
-max_turned a b = grind arith
 
 pub greatest-push : {X : Type 0} (f : X → ℕ) (xs : List X) (y : X) → greatest (map f (xs ++ y ∷ [])) ≡ max (f y) (greatest (map f xs))
 greatest-push f [] y = refl
@@ -85,10 +50,6 @@ greatest-reverse f (x ∷ xs) =
     ∙ ap (max (f x)) (greatest-reverse f xs)
 
 -- ---- mapped
-
-pub any-map : {X Y : Type 0} (p : Y → Bool) (f : X → Y) (xs : List X) → list_any p (map f xs) ≡ list_any (λ x. p (f x)) xs
-any-map p f [] = refl
-any-map p f (x ∷ xs) = ap (λ (b : Bool). p (f x) || b) (any-map p f xs)
 
 find_next : {X Y : Type 0} (f : X → Y) (b : Bool) (x : X) (o : Option Y) (last : Option X) → o ≡ option_map f last
     → cond b (Some (f x)) o ≡ option_map f (cond b (Some x) last)
@@ -163,11 +124,8 @@ count-same p q (x ∷ xs) h =
     ∙ ap (λ (n : ℕ). cond (q x) 1 0 + n) rest
     ∙ sym (sum_by-cons (λ y. cond (q y) 1 0) x xs)
 
-same_some : {X : Type 0} (x y : X) → Some x ≡ Some y → x ≡ y
-same_some x y e = cc
-
 pub each-push : {X : Type 0} (xs : List X) (y : X) (P : ℕ → X → Type 0) → Each xs P → P (length xs) y → Each (xs ++ y ∷ []) P
-each-push [] y P h here zero x is = subst (P 0) (same_some y x is) here
+each-push [] y P h here zero x is = subst (P 0) (same_Some y x is) here
 each-push [] y P h here (suc place) x is = absurd (let e : None ≡ Some x = is in cc)
 each-push (z ∷ xs) y P h here zero x is = h 0 x is
 each-push (z ∷ xs) y P h here (suc place) x is =
@@ -175,7 +133,7 @@ each-push (z ∷ xs) y P h here (suc place) x is =
 
 pub each-set : {X : Type 0} (xs : List X) (t : ℕ) (y : X) (P : ℕ → X → Type 0) → Each xs P → P t y → Each (slice_set xs t y) P
 each-set [] t y P h here place x is = absurd (let e : None ≡ Some x = is in cc)
-each-set (z ∷ xs) zero y P h here zero x is = subst (P 0) (same_some y x is) here
+each-set (z ∷ xs) zero y P h here zero x is = subst (P 0) (same_Some y x is) here
 each-set (z ∷ xs) zero y P h here (suc place) x is = h (suc place) x is
 each-set (z ∷ xs) (suc t) y P h here zero x is = h 0 x is
 each-set (z ∷ xs) (suc t) y P h here (suc place) x is =
@@ -206,12 +164,12 @@ set-length (x ∷ xs) (suc t) y = ap suc (set-length xs t y)
 
 pub map-set_same : {X Y : Type 0} (f : X → Y) (xs : List X) (t : ℕ) (was y : X) → slice_get xs t ≡ Some was → f y ≡ f was → map f (slice_set xs t y) ≡ map f xs
 map-set_same f [] t was y is e = refl
-map-set_same {X = X} {Y = Y} f (x ∷ xs) zero was y is e = ap (λ (z : Y). z ∷ map f xs) (e ∙ ap f (sym (same_some x was is)))
+map-set_same {X = X} {Y = Y} f (x ∷ xs) zero was y is e = ap (λ (z : Y). z ∷ map f xs) (e ∙ ap f (sym (same_Some x was is)))
 map-set_same {Y = Y} f (x ∷ xs) (suc t) was y is e = ap (λ (zs : List Y). f x ∷ zs) (map-set_same f xs t was y is e)
 
 pub get-set_same : {X Y : Type 0} (f : X → Y) (xs : List X) (t : ℕ) (was y : X) → slice_get xs t ≡ Some was → f y ≡ f was → (k : ℕ) → option_map f (slice_get (slice_set xs t y) k) ≡ option_map f (slice_get xs k)
 get-set_same f [] t was y is e k = refl
-get-set_same {Y = Y} f (x ∷ xs) zero was y is e zero = ap (λ (z : Y). Some z) (e ∙ ap f (sym (same_some x was is)))
+get-set_same {Y = Y} f (x ∷ xs) zero was y is e zero = ap (λ (z : Y). Some z) (e ∙ ap f (sym (same_Some x was is)))
 get-set_same f (x ∷ xs) zero was y is e (suc k) = refl
 get-set_same f (x ∷ xs) (suc t) was y is e zero = refl
 get-set_same f (x ∷ xs) (suc t) was y is e (suc k) = get-set_same f xs t was y is e k
@@ -219,7 +177,7 @@ get-set_same f (x ∷ xs) (suc t) was y is e (suc k) = get-set_same f xs t was y
 -- what an element passes after it was written: b, or what it passed before
 pub passes-set : {X : Type 0} (p : X → Bool) (b : Bool) (xs : List X) (t : ℕ) (was y : X) → slice_get xs t ≡ Some was → p y ≡ (b || p was) → (k : ℕ) → some_passes p (slice_get (slice_set xs t y) k) ≡ (((t == k) && b) || some_passes p (slice_get xs k))
 passes-set p b [] t was y is e k = absurd (let fails : None ≡ Some was = is in cc)
-passes-set p b (x ∷ xs) zero was y is e zero = e ∙ ap (λ z. b || p z) (sym (same_some x was is))
+passes-set p b (x ∷ xs) zero was y is e zero = e ∙ ap (λ z. b || p z) (sym (same_Some x was is))
 passes-set p b (x ∷ xs) zero was y is e (suc k) =
     ap (λ (c : Bool). (c && b) || some_passes p (slice_get xs k)) (sym (zero_suc k))
 passes-set p b (x ∷ xs) (suc t) was y is e zero = ap (λ (c : Bool). (c && b) || p x) (sym (suc_zero t))
@@ -230,17 +188,17 @@ passes-set p b (x ∷ xs) (suc t) was y is e (suc k) =
 pub any-set : {X : Type 0} (q : X → Bool) (xs : List X) (t : ℕ) (was y : X) → slice_get xs t ≡ Some was → q was ≡ false → list_any q (slice_set xs t y) ≡ (q y || list_any q xs)
 any-set q [] t was y is fails = absurd (let none : None ≡ Some was = is in cc)
 any-set q (x ∷ xs) zero was y is fails =
-    ap (λ (b : Bool). q y || (b || list_any q xs)) (sym (ap q (same_some x was is) ∙ fails))
+    ap (λ (b : Bool). q y || (b || list_any q xs)) (sym (ap q (same_Some x was is) ∙ fails))
 any-set q (x ∷ xs) (suc t) was y is fails =
     ap (λ (b : Bool). q x || b) (any-set q xs t was y is fails)
     ∙ or_either (q x) (q y) (list_any q xs)
-    ∙ ap (λ (b : Bool). b || list_any q xs) (or_turned (q x) (q y))
+    ∙ ap (λ (b : Bool). b || list_any q xs) (or_comm (q x) (q y))
     ∙ sym (or_either (q y) (q x) (list_any q xs))
 
 -- an element that passes is found
 pub any-found : {X : Type 0} (q : X → Bool) (xs : List X) (t : ℕ) (x : X) → slice_get xs t ≡ Some x → q x ≡ true → (y : X) × (find q xs ≡ Some y)
 any-found q [] t x is holds = absurd (let none : None ≡ Some x = is in cc)
-any-found q (z ∷ xs) zero x is holds = (z, ap (λ (b : Bool). cond b (Some z) (find q xs)) (ap q (same_some z x is) ∙ holds))
+any-found q (z ∷ xs) zero x is holds = (z, ap (λ (b : Bool). cond b (Some z) (find q xs)) (ap q (same_Some z x is) ∙ holds))
 any-found {X = X} q (z ∷ xs) (suc t) x is holds = by (q z) (any-found q xs t x is holds)
   where
     by : (b : Bool) → ((y : X) × (find q xs ≡ Some y)) → (y : X) × (cond b (Some z) (find q xs) ≡ Some y)
@@ -265,4 +223,4 @@ pub any-push : {X : Type 0} (q : X → Bool) (xs : List X) (y : X) → q y ≡ f
 any-push q xs y fails =
     list_any-append q xs (y ∷ [])
     ∙ ap (λ (b : Bool). list_any q xs || (b || false)) fails
-    ∙ or_no (list_any q xs)
+    ∙ or-false (list_any q xs)

@@ -6,8 +6,11 @@ use Rattle.std.proofs.lemmas.List.Folds.{find-append}
 use Rattle.std.proofs.lemmas.List.Sums.{sum_by-cons}
 use Rattle.std.specs.List.{count_by, filter, find, list_any, position, position_from, range_with_len, slice_get}
 use Rattle.std.specs.Option.{option_or}
-use Rattle.pl_state.specs.Chain.{some_passes}
-use Rattle.pl_errands.proofs.Lists.{Each, and_no, and_yes, any-filter, or_no, or_none, reverse-cons}
+use Rattle.std.proofs.Math.Bool.{or-false, and-false, and-true}
+use Rattle.pl_lemmas.proofs.Options.{or_none}
+use Rattle.pl_lemmas.proofs.Numbers.{found_next, counted_next}
+use Rattle.pl_lemmas.specs.Words.{some_passes}
+use Rattle.pl_errands.proofs.Lists.{Each, any-filter, reverse-cons}
 
 module _ {X : Type 0} (number : X → ℕ) where
   -- the elements are numbered from a start on
@@ -56,7 +59,7 @@ module _ {X : Type 0} (number : X → ℕ) where
       let here : number x ≡ start + 0 = h 0 x refl in
       let other : (number x == t) ≡ false = grind (arith, nat_tests) in
       ap (λ (b : Bool). (p x && b) || list_any (λ y. p y && (number y == t)) xs) other
-      ∙ ap (λ (b : Bool). b || list_any (λ y. p y && (number y == t)) xs) (and_no (p x))
+      ∙ ap (λ (b : Bool). b || list_any (λ y. p y && (number y == t)) xs) (and-false (p x))
       ∙ any_below p xs (start + 1) t more (from-tail start x xs h)
 
   any_from : (p : X → Bool) (xs : List X) (start k : ℕ) → From start xs → list_any (λ x. p x && (number x == start + k)) xs ≡ some_passes p (slice_get xs k)
@@ -67,14 +70,14 @@ module _ {X : Type 0} (number : X → ℕ) where
       let same : (number x == start + 0) ≡ true = grind (arith, nat_tests) in
       ap (λ (b : Bool). (p x && b) || list_any (λ y. p y && (number y == start + 0)) xs) same
       ∙ ap (λ (b : Bool). (p x && true) || b) (any_below p xs (start + 1) (start + 0) less (from-tail start x xs h))
-      ∙ or_no (p x && true)
-      ∙ and_yes (p x)
+      ∙ or-false (p x && true)
+      ∙ and-true (p x)
   any_from p (x ∷ xs) start (suc k) h =
       let here : number x ≡ start + 0 = h 0 x refl in
       let other : (number x == start + suc k) ≡ false = grind (arith, nat_tests) in
       let next : start + suc k ≡ start + 1 + k = omega arith in
       ap (λ (b : Bool). (p x && b) || list_any (λ y. p y && (number y == start + suc k)) xs) other
-      ∙ ap (λ (b : Bool). b || list_any (λ y. p y && (number y == start + suc k)) xs) (and_no (p x))
+      ∙ ap (λ (b : Bool). b || list_any (λ y. p y && (number y == start + suc k)) xs) (and-false (p x))
       ∙ ap (λ (n : ℕ). list_any (λ y. p y && (number y == n)) xs) next
       ∙ any_from p xs (start + 1) k (from-tail start x xs h)
 
@@ -96,17 +99,6 @@ module _ {X : Type 0} (number : X → ℕ) where
       ap (λ (n : ℕ). list_any (λ x. p x && (number x == n)) xs) same ∙ any_from p xs 0 k (numbered_from xs h)
 
 -- ---- tests on numbers and on the elements at these places
-
-found_next : (among free : Bool) (start : ℕ) (test : ℕ → Bool) (later : List ℕ) (last : Option ℕ) → test start ≡ free → find test later ≡ last
-    → find test (cond among (start ∷ later) later) ≡ cond (among && free) (Some start) last
-found_next true true start test later last e f = ap (λ (b : Bool). cond b (Some start) (find test later)) e
-found_next true false start test later last e f = ap (λ (b : Bool). cond b (Some start) (find test later)) e ∙ f
-found_next false true start test later last e f = f
-found_next false false start test later last e f = f
-
-counted_next : (among : Bool) (start : ℕ) (later : List ℕ) (count : ℕ) → length later ≡ count → length (cond among (start ∷ later) later) ≡ cond among 1 0 + count
-counted_next true start later count e = omega arith
-counted_next false start later count e = omega arith
 
 module _ {X : Type 0} where
   abbrev Tells : (ℕ → Bool) → (X → Bool) → ℕ → List X → Type 0

@@ -5,8 +5,10 @@ use Rattle.std.proofs.lemmas.List.{length-reverse, reverse-reverse}
 use Rattle.std.proofs.lemmas.List.Sums.{length-filter, sum_by-cons}
 use Rattle.std.specs.List.{count_by, filter, find, list_any, position, range_with_len, slice_get}
 use Rattle.std.specs.Option.{is_some, option_or}
+use Rattle.pl_lemmas.proofs.Options.{or_none}
+use Rattle.pl_lemmas.proofs.Lists.{any_reversed, any_mapped}
 use Rattle.pl_value.specs.Inside.{greatest}
-use Rattle.pl_state.specs.Chain.{some_passes}
+use Rattle.pl_lemmas.specs.Words.{has_number, some_passes}
 use Rattle.pl_events.specs.declared.event.Event.{Event}
 use Rattle.pl_events.specs.declared.operation.Op.{Op}
 use Rattle.pl_events.specs.declared.operation.Source.{Source}
@@ -14,7 +16,6 @@ use Rattle.pl_events.specs.declared.reply.Reply.{Reply}
 use Rattle.pl_model.specs.declared.errand.Closed.{Closed}
 use Rattle.pl_model.specs.declared.errand.Errand.{Errand}
 use Rattle.pl_model.specs.Tickets.{begun_of, has_configured, is_closed, is_coming as coming_in, is_configured as configured_in, is_free as free_in, is_lost as lost_in, is_open as open_in, is_out as out_in, is_source, lane_count, lane_free, lane_source, lanes_from, loses, next_ticket, open_errands, reply_if, reply_to, same_op, source_begun, was_begun, was_configured}
-use Rattle.pl_model.specs.Recording.{has_number}
 use Rattle.pl_errands.specs.declared.lane.Lane.{Lane}
 use Rattle.pl_errands.specs.declared.row.Replied.{Replied}
 use Rattle.pl_errands.specs.declared.row.Row.{Row}
@@ -25,7 +26,7 @@ use Rattle.pl_errands.specs.Rows.{AgreeRows, AreNumbered, is_answered, is_config
 use Rattle.pl_errands.specs.Lanes.{AgreeLanes, errands_in, is_coming_lane, is_free_lane, is_from, is_out_lane, out_of}
 use Rattle.pl_errands.proofs.Events.{begun_read, closed_read, configured_read, lost_read}
 use Rattle.pl_errands.proofs.LaneSteps.{after, is_on}
-use Rattle.pl_errands.proofs.Lists.{Each, any-filter, any-map, any-reverse, any-same, count-same, filter-map, greatest-reverse, map-length, map-reversed, or_none, reverse-cons, sum-reverse}
+use Rattle.pl_errands.proofs.Lists.{Each, any-filter, any-same, count-same, filter-map, greatest-reverse, map-length, map-reversed, reverse-cons, sum-reverse}
 use Rattle.pl_errands.proofs.Places.{any_numbered, any_place, count_places, first_place}
 
 and_turned : (a b : Bool) → (a && b) ≡ (b && a)
@@ -105,7 +106,7 @@ module _ (rows : List Row) (replies : List Replied) (lost : List ℕ) (numbered 
   -- ---- operations
 
   any_begun : (p : Errand → Bool) → list_any p (begun_of events) ≡ list_any (λ row. p row.errand) rows
-  any_begun p = ap (list_any p) begun_rows ∙ any-reverse p (errands_in rows) ∙ any-map p (λ row. row.errand) rows
+  any_begun p = ap (list_any p) begun_rows ∙ any_reversed p (errands_in rows) ∙ any_mapped p (λ row. row.errand) rows
 
   any_open : (p : Errand → Bool) → list_any p (open_errands events) ≡ list_any (λ row. is_open_row row && p row.errand) rows
   any_open p =

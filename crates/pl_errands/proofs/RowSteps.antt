@@ -2,23 +2,23 @@
 use Rattle.std.proofs.Common.{◌≡◌, ℕ, Bool, true, false, ◌==◌, ◌&&◌, ◌||◌, List, [], ◌∷◌, ◌++◌, length, map, reverse, Option, Some, option_map, refl, sym, ap, ◌∙◌}
 use Rattle.std.proofs.lemmas.List.{reverse-append}
 use Rattle.std.specs.List.{cons_option, filter_map, find, slice_get, slice_set}
-use Rattle.pl_state.specs.Chain.{some_passes}
+use Rattle.std.proofs.Math.Bool.{or-false, and-false, and-true}
+use Rattle.pl_lemmas.specs.Words.{has_number, some_passes}
 use Rattle.pl_events.specs.declared.event.What.TheVariants.{Answered}
 use Rattle.pl_events.specs.declared.reply.Reply.{Reply}
 use Rattle.pl_events.specs.declared.reply.Reply.TheVariants as reply
 use Rattle.pl_model.specs.declared.errand.Closed.{Closed}
 use Rattle.pl_model.specs.declared.errand.Errand.{Errand}
 use Rattle.pl_model.specs.Tickets.{closed_by, errand_at}
-use Rattle.pl_model.specs.Recording.{has_number}
 use Rattle.pl_model.specs.Step.{configured_by}
 use Rattle.pl_errands.specs.declared.row.Replied.{Replied}
 use Rattle.pl_errands.specs.declared.row.Row.{Row}
 use Rattle.pl_errands.specs.declared.row.Standing.{Standing}
 use Rattle.pl_errands.specs.declared.row.Standing.TheVariants as standing
-use Rattle.pl_errands.specs.Tickets.{events_of, with_answer, with_begun, with_loss}
+use Rattle.pl_errands.specs.Tickets.{events_of, with_answer, with_loss}
 use Rattle.pl_errands.specs.Rows.{AgreeRows, AreNumbered, configured_of, is_answered, is_configured, is_lost, standing_of, tickets_by}
 use Rattle.pl_errands.proofs.Events.{begun_read}
-use Rattle.pl_errands.proofs.Lists.{and_no, and_yes, each-push, each-set, find-map, map-reversed, map-set_same, or_no, passes-push, passes-set}
+use Rattle.pl_errands.proofs.Lists.{each-push, each-set, find-map, map-reversed, map-set_same, passes-push, passes-set}
 use Rattle.pl_errands.proofs.Places.{find_numbered}
 
 reverse-push : {X : Type 0} (xs : List X) (y : X) → reverse (xs ++ y ∷ []) ≡ y ∷ reverse xs
@@ -37,16 +37,6 @@ errand_at_row rows replies lost ticket numbered =
 module _ (rows : List Row) (replies : List Replied) (lost : List ℕ) (errand : Errand) where
   abbrev begun_row : Row
   begun_row = record { errand = errand; standing = standing.Open }
-
-  pub begun_tickets : tickets_by (rows ++ begun_row ∷ []) replies lost
-      ≡ with_begun errand.seat errand.ticket errand.lane errand.op (tickets_by rows replies lost)
-  begun_tickets = λ i. record {
-    begun = map (λ row. row.errand) (reverse-push rows begun_row i);
-    answered = map (λ one. one.ticket) (reverse replies);
-    lost = reverse lost;
-    configured = filter_map configured_of (reverse replies);
-    answers = map (λ one. one.closed) (reverse replies);
-  }
 
   pub begun_numbered : AreNumbered rows → errand.ticket ≡ length rows → AreNumbered (rows ++ begun_row ∷ [])
   begun_numbered numbered next = each-push rows begun_row (λ place row. row.errand.ticket ≡ place) numbered next
@@ -79,7 +69,7 @@ module _ (rows : List Row) (ticket : ℕ) (errand : Errand) where
       ≡ some_passes (λ row. test row.standing) (slice_get rows number)
   passes_same test became was fails none number =
       passes-set (λ row. test row.standing) false rows ticket open_row (closed_row became) was (none ∙ sym fails) number
-      ∙ ap (λ (b : Bool). b || some_passes (λ row. test row.standing) (slice_get rows number)) (and_no (ticket == number))
+      ∙ ap (λ (b : Bool). b || some_passes (λ row. test row.standing) (slice_get rows number)) (and-false (ticket == number))
 
   passes_more : (test : Standing → Bool) (became : Standing) → slice_get rows ticket ≡ Some open_row
       → test became ≡ true → (number : ℕ)
@@ -87,7 +77,7 @@ module _ (rows : List Row) (ticket : ℕ) (errand : Errand) where
       ≡ ((ticket == number) || some_passes (λ row. test row.standing) (slice_get rows number))
   passes_more test became was holds number =
       passes-set (λ row. test row.standing) true rows ticket open_row (closed_row became) was holds number
-      ∙ ap (λ (b : Bool). b || some_passes (λ row. test row.standing) (slice_get rows number)) (and_yes (ticket == number))
+      ∙ ap (λ (b : Bool). b || some_passes (λ row. test row.standing) (slice_get rows number)) (and-true (ticket == number))
 
   same_begun : (became : Standing) → slice_get rows ticket ≡ Some open_row
       → map (λ row. row.errand) (slice_set rows ticket (closed_row became)) ≡ map (λ row. row.errand) rows
@@ -140,8 +130,8 @@ module _ (rows : List Row) (replies : List Replied) (lost : List ℕ) (ticket : 
       → has_number (cons_option (configured_by ticket reply) numbers) number
       ≡ (((ticket == number) && is_configured (standing_of reply)) || old)
   configured_number reply.Configured numbers number old e =
-      ap (λ (b : Bool). (ticket == number) || b) e ∙ ap (λ (b : Bool). b || old) (sym (and_yes (ticket == number)))
-  configured_number _ numbers number old e = e ∙ ap (λ (b : Bool). b || old) (sym (and_no (ticket == number)))
+      ap (λ (b : Bool). (ticket == number) || b) e ∙ ap (λ (b : Bool). b || old) (sym (and-true (ticket == number)))
+  configured_number _ numbers number old e = e ∙ ap (λ (b : Bool). b || old) (sym (and-false (ticket == number)))
 
   pub answered_rows : AgreeRows rows (tickets_by rows replies lost)
       → AgreeRows rows_answered (with_answer ticket told (tickets_by rows replies lost))
@@ -154,7 +144,7 @@ module _ (rows : List Row) (replies : List Replied) (lost : List ℕ) (ticket : 
     configured = λ number.
         configured_number told (tickets_by rows replies lost).configured number _ (agree.configured number)
         ∙ sym (passes-set (λ row. is_configured row.standing) (is_configured (standing_of told)) rows ticket
-        (open_row rows ticket errand) (closed_row rows ticket errand (standing_of told)) was (sym (or_no (is_configured (standing_of told)))) number);
+        (open_row rows ticket errand) (closed_row rows ticket errand (standing_of told)) was (sym (or-false (is_configured (standing_of told)))) number);
   }
 
 -- ---- lost

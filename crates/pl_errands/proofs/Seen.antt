@@ -2,7 +2,7 @@
 use Rattle.std.proofs.Common.{◌≡◌, ℕ, ◌&&◌, nat_lt, length, option_and_then, option_map, sym, ap, ◌∙◌}
 use Rattle.std.specs.List.{count_by, find, list_any, position, slice_get}
 use Rattle.std.specs.Option.{is_some}
-use Rattle.pl_state.specs.Chain.{some_passes}
+use Rattle.pl_lemmas.specs.Words.{some_passes}
 use Rattle.pl_events.specs.declared.operation.Op.{Op}
 use Rattle.pl_events.specs.declared.operation.Source.{Source}
 use Rattle.pl_model.specs.Tickets as spec

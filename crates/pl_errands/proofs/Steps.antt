@@ -5,7 +5,7 @@ use Rattle.std.proofs.lemmas.List.{length_push}
 use Rattle.std.proofs.lemmas.List.Sums.{get_or-le-sum_by, sum_by-set, sum_by_push}
 use Rattle.std.proofs.lemmas.Option.{get_or_from_slice_get, slice_get_cases, slice_get_within}
 use Rattle.std.specs.List.{count_by, slice_get, slice_set}
-use Rattle.pl_state.specs.Chain.{some_passes}
+use Rattle.pl_lemmas.specs.Words.{some_passes}
 use Rattle.pl_events.specs.declared.reply.Reply.{Reply}
 use Rattle.pl_events.specs.declared.reply.Reply.TheVariants as reply
 use Rattle.pl_model.specs.declared.errand.Errand.{Errand}

@@ -1,10 +1,9 @@
 -- A row for each ticket: its operation, and what became of it.
 use Rattle.std.specs.Prelude.{◌≡◌, ℕ, Bool, true, false, Option, Some, List, map, reverse, slice_get}
 use Rattle.std.specs.List.{filter_map}
-use Rattle.pl_state.specs.Chain.{some_passes}
+use Rattle.pl_lemmas.specs.Words.{has_number, some_passes}
 use Rattle.pl_events.specs.declared.reply.Reply.{Reply}
 use Rattle.pl_events.specs.declared.reply.Reply.TheVariants as reply
-use Rattle.pl_model.specs.Recording.{has_number}
 use Rattle.pl_model.specs.Step.{configured_by}
 use Rattle.pl_errands.specs.declared.row.Replied.{Replied}
 use Rattle.pl_errands.specs.declared.row.Row.{Row}

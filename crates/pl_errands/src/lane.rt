@@ -2,7 +2,7 @@ ghost use Rattle.std.specs.Prelude.{◌≡◌, ◌+◌, ◌<◌, ◌≤◌, ◌^
 ghost use Rattle.std.specs.List.{list_any};
 ghost use Rattle.std.specs.Vec.{vec_capacity};
 ghost use Rattle.pl_errands.specs.Lanes as spec;
-ghost use Rattle.pl_state.specs.Chain.{some_passes};
+ghost use Rattle.pl_lemmas.specs.Words.{some_passes};
 
 use crate::row::Standing;
 use crate::same::{same_source, source_begun};

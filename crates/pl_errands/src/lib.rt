@@ -5,8 +5,6 @@ mod errands;
 mod lane;
 mod row;
 mod same;
-#[cfg(test)]
-mod tests;
 
 pub use errands::Errands;
 pub use pl_events;

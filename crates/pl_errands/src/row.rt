@@ -4,7 +4,7 @@ ghost use Rattle.std.specs.Option.{option_copied};
 ghost use Rattle.std.specs.Vec.{vec_capacity};
 ghost use Rattle.pl_errands.specs.Rows as spec;
 ghost use Rattle.pl_model.specs.Tickets.{same_op as is_same_op};
-ghost use Rattle.pl_state.specs.Chain.{some_passes};
+ghost use Rattle.pl_lemmas.specs.Words.{some_passes};
 
 use crate::same::same_op;
 use pl_events::{Op, Reply};

@@ -18,7 +18,8 @@ use Rattle.pl_events.specs.declared.operation.Subject.{Subject}
 use Rattle.pl_events.specs.declared.operation.Subject.TheVariants as subject
 use Rattle.pl_model.specs.Run.{Pairs, imports_of}
 use Rattle.pl_model.specs.declared.decided.Decided.{Decided}
-use Rattle.pl_model.specs.Claims.{claimed_row, is_row}
+use Rattle.pl_lemmas.specs.Words.{is_row}
+use Rattle.pl_model.specs.Claims.{claimed_row}
 use Rattle.pl_model.specs.Decisions.{Turn, checked_at, inputs_at, kin_at}
 use Rattle.pl_model.specs.Entries.{old_row}
 use Rattle.pl_model.specs.Known.{Known, asked_at, decided_goal, goal_at, turn_of_goal}

@@ -1,7 +1,7 @@
 -- Which work is chosen next, and on which lane.
 use Rattle.std.specs.Prelude.{◌≡◌, ℕ, Bool, true, not, ◌&&◌, if◌then◌else◌, nat_lt, unwrap_or, Option, None, Some, find, length}
 use Rattle.std.specs.List.{range_with_len}
-use Rattle.pl_state.specs.Component.{has_none}
+use Rattle.pl_lemmas.specs.Words.{has_none}
 use Rattle.pl_events.specs.Lanes.{LanesTold}
 use Rattle.pl_events.specs.declared.operation.Op.{Op}
 use Rattle.pl_events.specs.declared.operation.Source.{Source}

@@ -15,30 +15,12 @@ use Rattle.pl_decide.specs.Limited.{is_delete_first}
 use Rattle.pl_model.specs.declared.decided.Decided.{Decided}
 use Rattle.pl_model.specs.declared.fixed.Fixed.{Fixed}
 use Rattle.pl_model.specs.Run.{rows_of}
-use Rattle.pl_model.specs.Recording.{has_number}
+use Rattle.pl_lemmas.specs.Words.{first_some, has_number, is_row, number_where}
 
--- Goals and what is decided of them stand newest first; a goal's number is the count of the goals before it.
-abbrev pub numbered : {X : Type 0} → List X → ℕ → Option X
-numbered [] number = None
-numbered (newest ∷ earlier) number = if length earlier == number then Some newest else numbered earlier number
-
--- the number of the newest one that passes a test
-abbrev pub number_where : {X : Type 0} → (X → Bool) → List X → Option ℕ
-number_where test [] = None
-number_where test (newest ∷ earlier) = if test newest then Some (length earlier) else number_where test earlier
-
--- the number of the goal with this URN
+-- the number of the goal with this URN; goals and what is decided of them stand newest first, and a goal's number is
+-- the count of the goals before it
 abbrev pub goal_number : List Goal → List ℕ → Option ℕ
 goal_number goals urn = number_where (λ goal. bytes_eq goal.urn urn) goals
-
--- the first thing that is found for one of the list
-abbrev pub first_some : {X Y : Type 0} → (X → Option Y) → List X → Option Y
-first_some found [] = None
-first_some found (x ∷ others) = option_or (found x) (first_some found others)
-
-abbrev pub is_row : Option ℕ → ℕ → Bool
-is_row None row = false
-is_row (Some own) row = own == row
 
 -- the chain of a claim, if there is one
 abbrev pub chain_of_claim : Fixed → Option ℕ → List ℕ

@@ -5,7 +5,8 @@ use Rattle.std.specs.List.{cons_option}
 use Rattle.std.specs.Option.{option_or}
 use Rattle.pl_value.specs.Inside.{any_field_unknown}
 use Rattle.pl_options.specs.Ignored.{with_ignored}
-use Rattle.pl_state.specs.Chain.{provider_row_of, rows_at, some_passes}
+use Rattle.pl_lemmas.specs.Words.{is_row, numbered, some_passes}
+use Rattle.pl_state.specs.Chain.{provider_row_of, rows_at}
 use Rattle.pl_state.specs.Kinds.{is_provider_goal, is_provided, is_reading_goal, is_of_default, kin_of}
 use Rattle.pl_state.specs.declared.entry.Entry.{Entry}
 use Rattle.pl_state.specs.declared.goal.Goal.{Goal}
@@ -26,7 +27,7 @@ use Rattle.pl_model.specs.declared.errand.Closed.{Closed}
 use Rattle.pl_model.specs.declared.fixed.Fixed.{Fixed}
 use Rattle.pl_model.specs.Run.{Pairs, rows_of, is_preview}
 use Rattle.pl_model.specs.Tickets.{reply_to}
-use Rattle.pl_model.specs.Claims.{numbered, claim_for, claimed_row, claimer_of, chain_of_claim, is_claimed, is_row}
+use Rattle.pl_model.specs.Claims.{claim_for, claimed_row, claimer_of, chain_of_claim, is_claimed}
 
 -- a goal at its turn: the run and the replies that came, the goals before it with what is decided of them, the
 -- goal and the row that it claims

@@ -2,7 +2,7 @@
 use Rattle.std.specs.Prelude.{◌≡◌, ℕ, ◌+◌, ◌==◌, Bool, true, false, not, ◌&&◌, ◌||◌, if◌then◌else◌, nat_lt, Option, None, Some, is_some, is_none, List, [], ◌∷◌, ◌++◌, length, filter, find, map, reverse, option_map, option_and_then, slice_get, bytes_eq}
 use Rattle.std.specs.List.{list_any, list_all, range_with_len, flat_map}
 use Rattle.pl_value.specs.Inside.{any_field_unknown}
-use Rattle.pl_state.specs.Chain.{some_passes}
+use Rattle.pl_lemmas.specs.Words.{has_number, is_row, none_or, some_passes}
 use Rattle.pl_state.specs.Kinds.{is_provided, is_provider_goal}
 use Rattle.pl_state.specs.References.{further_urns}
 use Rattle.pl_state.specs.declared.entry.Entry.{Entry}
@@ -24,15 +24,16 @@ use Rattle.pl_decide.specs.declared.decision.Decision.{Decision}
 use Rattle.pl_decide.specs.declared.decision.Decision.TheVariants as decision
 use Rattle.pl_model.specs.declared.work.Work.{Work}
 use Rattle.pl_model.specs.declared.work.Work.TheVariants.{Clear as to_clear, Drop as to_drop, Keep as to_keep, Post as to_post, Send as to_send}
-use Rattle.pl_model.specs.Run.{Pairs, clears_creates, imports_of, is_preview, is_refresh, most_resources}
+use Rattle.pl_model.specs.Run.{Pairs, clears_creates, imports_of, is_preview, is_refresh}
+use Rattle.pl_state.specs.Formed.{most_resources}
 use Rattle.pl_model.specs.Tickets.{is_coming, is_free, is_lost, is_out, is_source, lane_count, lane_free, lane_source, lanes_from, open_errands, reply_to, same_op, was_begun, was_configured}
-use Rattle.pl_model.specs.Recording.{has_number, posted_of}
+use Rattle.pl_model.specs.Recording.{posted_of}
 use Rattle.pl_decide.specs.Limited.{is_create_first, is_delete_first, is_refused}
 use Rattle.pl_model.specs.declared.decided.Decided.{Decided}
 use Rattle.pl_model.specs.declared.heard.Fate.{Fate}
 use Rattle.pl_model.specs.declared.heard.Fate.TheVariants.{Accepted as accepted, Halted as halted, Refused as refused}
 use Rattle.pl_model.specs.declared.heard.Heard.{Heard}
-use Rattle.pl_model.specs.Claims.{chain_of_goal, goal_number, is_row}
+use Rattle.pl_model.specs.Claims.{chain_of_goal, goal_number}
 use Rattle.pl_model.specs.Decisions.{Turn, checked_at, checked_in, has_unknown_inputs, is_provider_unknown, needs_check, number_at, same_text, wants_diff}
 use Rattle.pl_model.specs.Known.{Known, asked_at, decided_goal, goal_at, has_problem, is_recorded, next_turn, number_of}
 use Rattle.pl_model.specs.Entries.{old_row}
@@ -47,10 +48,6 @@ goal_numbers known = range_with_len 0 (length known.goals)
 
 abbrev pub is_recorded_urn : Known → List ℕ → Bool
 is_recorded_urn known urn = some_passes (is_recorded known) (goal_number known.goals urn)
-
-abbrev pub none_or : {X : Type 0} → (X → Bool) → Option X → Bool
-none_or passes None = true
-none_or passes (Some x) = passes x
 
 -- whether the goals of a goal's references are recorded
 abbrev pub references_recorded : Known → Goal → Bool

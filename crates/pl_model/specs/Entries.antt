@@ -21,10 +21,11 @@ use Rattle.pl_model.specs.Run.{Pairs}
 use Rattle.pl_model.specs.declared.decided.Decided.{Decided}
 use Rattle.pl_model.specs.declared.errand.Closed.{Closed}
 use Rattle.pl_model.specs.Tickets.{closed_by}
-use Rattle.pl_model.specs.Recording.{has_number, only_if, recorded_by_reply, recorded_of}
-use Rattle.pl_model.specs.Claims.{claimed_row, first_some, id_of_row, kept_provider_id}
+use Rattle.pl_lemmas.specs.Words.{first_some, has_number, only_if}
+use Rattle.pl_model.specs.Recording.{recorded_by_reply, recorded_of}
+use Rattle.pl_model.specs.Claims.{claimed_row, id_of_row, kept_provider_id}
 use Rattle.pl_model.specs.Known.{Known, claim_row, decided_goal, goal_at, provider_id}
-use Rattle.pl_model.specs.Planned.{planned_outputs}
+use Rattle.pl_refresh.specs.Planned.{planned_outputs}
 use Rattle.pl_model.specs.Rows.{is_marked, is_to_be_made, left_rows, row_at}
 
 -- what a recording adds to the goal: an id, outputs, the errors of a thing that was made in part, and what is

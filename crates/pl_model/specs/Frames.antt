@@ -1,7 +1,7 @@
 -- What a child's bytes may be beside whole messages.
 use Rattle.std.specs.Prelude.{◌≡◌, ◌⊎◌, ℕ, ◌<◌, ◌^◌, Bool, List, ◌++◌}
 use Rattle.pl_world.specs.Frames.{IsBody, frame_of, length_bytes}
-use Rattle.pl_model.specs.Run.{longest_body}
+use Rattle.pl_world.specs.declared.frames.TheConstants.{MAX_BODY}
 
 -- what the run tells of the causes of a pipe's end: its counts, which began at 0, and whether memory was wanted
 pub record Causes : Type 0 where
@@ -11,7 +11,7 @@ pub record Causes : Type 0 where
 
 -- the four bytes of a length that no body has
 abbrev pub IsBadLength : List ℕ → Type 0
-IsBadLength bytes = (n : ℕ) × (n < 2 ^ 32) × ((n ≡ 0) ⊎ (longest_body < n)) × (bytes ≡ length_bytes n)
+IsBadLength bytes = (n : ℕ) × (n < 2 ^ 32) × ((n ≡ 0) ⊎ (MAX_BODY < n)) × (bytes ≡ length_bytes n)
 
 -- a body that is no message there, or the four bytes of a bad length
 abbrev pub IsBad : (List ℕ → Type 0) → List ℕ → Type 0

@@ -11,7 +11,8 @@ use Rattle.pl_events.specs.declared.event.What.{What}
 use Rattle.pl_events.specs.declared.event.What.TheVariants.{Told, HostGone, Posted}
 use Rattle.pl_model.specs.declared.fixed.Fixed.{Fixed}
 use Rattle.pl_model.specs.Run.{Spelling}
-use Rattle.pl_model.specs.Recording.{has_number, posted_of}
+use Rattle.pl_lemmas.specs.Words.{has_number}
+use Rattle.pl_model.specs.Recording.{posted_of}
 use Rattle.pl_model.specs.Due.{is_post_due}
 use Rattle.pl_model.specs.Frames.{Causes, IsBad, IsBadFrame, IsBadLength, IsFrameOf, IsLonger}
 use Rattle.pl_model.specs.History.{known_of}

@@ -18,8 +18,9 @@ use Rattle.pl_model.specs.declared.errand.Closed.{Closed}
 use Rattle.pl_model.specs.declared.fixed.Fixed.{Fixed}
 use Rattle.pl_model.specs.Run.{Pairs, has_host}
 use Rattle.pl_model.specs.Tickets.{answers_of}
-use Rattle.pl_model.specs.Recording.{recorded_of, fresh_of, has_number}
-use Rattle.pl_model.specs.Claims.{numbered, claimed_row, kept_provider_id}
+use Rattle.pl_lemmas.specs.Words.{has_number, numbered}
+use Rattle.pl_model.specs.Recording.{recorded_of, fresh_of}
+use Rattle.pl_model.specs.Claims.{claimed_row, kept_provider_id}
 use Rattle.pl_model.specs.Decisions.{Turn, checked_at, decided_of, inputs_at, number_at, turn_in}
 
 -- what a history tells; goals, decisions, answers and requests stand newest first, problems in order, each with

@@ -9,7 +9,8 @@ use Rattle.pl_events.specs.declared.operation.Source.{Source}
 use Rattle.pl_events.specs.declared.operation.Source.TheVariants as source
 use Rattle.pl_events.specs.declared.operation.Subject.TheVariants as subject
 use Rattle.pl_model.specs.Tickets.{begun_of, same_op, was_begun}
-use Rattle.pl_model.specs.Recording.{cleared_of, has_number, posted_of}
+use Rattle.pl_lemmas.specs.Words.{has_number}
+use Rattle.pl_model.specs.Recording.{cleared_of, posted_of}
 use Rattle.pl_model.specs.Known.{Known, is_recorded}
 use Rattle.pl_model.specs.Rows.{row_numbers, was_removed}
 use Rattle.pl_model.specs.Due.{goal_numbers, operations_of, pending_numbers, request_numbers}

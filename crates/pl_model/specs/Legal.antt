@@ -1,7 +1,7 @@
 -- Which histories a run may have.
 use Rattle.std.specs.Prelude.{⊤, ◌≡◌, ◌≢◌, ◌⊎◌, ℕ, ◌==◌, Bool, true, false, ◌&&◌, nat_lt, Option, None, Some, is_none, is_some, List, [], ◌∷◌, length, option_map}
 use Rattle.pl_world.specs.Frames.{IsBody}
-use Rattle.pl_state.specs.Chain.{some_passes}
+use Rattle.pl_lemmas.specs.Words.{some_passes}
 use Rattle.pl_state.specs.Kinds.{is_provider_goal}
 use Rattle.pl_events.specs.Closing.{has_stop}
 use Rattle.pl_events.specs.Replies.{reply_fits}
@@ -17,7 +17,8 @@ use Rattle.pl_events.specs.declared.reply.Reply.{Reply}
 use Rattle.pl_model.specs.declared.fixed.Fixed.{Fixed}
 use Rattle.pl_model.specs.declared.heard.Heard.{Heard}
 use Rattle.pl_model.specs.declared.work.Work.TheVariants.{Clear as to_clear, Drop as to_drop, Keep as to_keep}
-use Rattle.pl_model.specs.Run.{Spelling, longest_body}
+use Rattle.pl_model.specs.Run.{Spelling}
+use Rattle.pl_world.specs.declared.frames.TheConstants.{MAX_BODY}
 use Rattle.pl_model.specs.Tickets.{errand_at, is_open, next_ticket}
 use Rattle.pl_model.specs.Asked.{ask_of, call_of}
 use Rattle.pl_model.specs.Claims.{id_of_row, usable_id}
@@ -131,7 +132,7 @@ IsReplyTo spelling ticket (Some about) reply =
 -- whether what an operation asks has a longer body than a frame may have
 abbrev pub is_long_ask : Spelling → Known → Op → Bool
 is_long_ask spelling known about =
-    some_passes (λ asked. nat_lt longest_body (length (spelling.ask_text (next_ticket known.history) asked))) (ask_of known about)
+    some_passes (λ asked. nat_lt MAX_BODY (length (spelling.ask_text (next_ticket known.history) asked))) (ask_of known about)
 
 -- an operation or a post is due whose body a frame cannot have
 abbrev pub MayBeTooLong : Spelling → Known → Type 0

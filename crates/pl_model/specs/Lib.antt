@@ -10,7 +10,6 @@ pub mod Rows
 pub mod Problems
 pub mod History
 pub mod Outcomes
-pub mod Planned
 pub mod Entries
 pub mod State
 pub mod Due

@@ -1,7 +1,8 @@
 -- The plan of a history: a step for each goal, and one for each row that is to be deleted.
 use Rattle.std.specs.Prelude.{ℕ, Bool, not, ◌&&◌, ◌||◌, if◌then◌else◌, Option, None, Some, List, ◌∷◌, ◌++◌, ◌-◌, drop, length, reverse, option_and_then}
 use Rattle.std.specs.List.{filter_map, list_any}
-use Rattle.pl_state.specs.Chain.{goes_along, some_passes}
+use Rattle.pl_lemmas.specs.Words.{some_passes}
+use Rattle.pl_state.specs.Chain.{goes_along}
 use Rattle.pl_state.specs.References.{has_urn}
 use Rattle.pl_state.specs.declared.entry.Entry.{Entry}
 use Rattle.pl_state.specs.declared.goal.Goal.{Goal}

@@ -11,9 +11,11 @@ use Rattle.pl_events.specs.declared.reply.Reply.{Reply}
 use Rattle.pl_events.specs.declared.reply.Reply.TheVariants as reply
 use Rattle.pl_decide.specs.declared.problem.Problem.{Problem}
 use Rattle.pl_decide.specs.declared.problem.Problem.TheVariants as problem
-use Rattle.pl_model.specs.Run.{Spelling, longest_body}
+use Rattle.pl_model.specs.Run.{Spelling}
+use Rattle.pl_world.specs.declared.frames.TheConstants.{MAX_BODY}
 use Rattle.pl_model.specs.Tickets.{reply_to}
-use Rattle.pl_model.specs.Recording.{has_number, posted_of}
+use Rattle.pl_lemmas.specs.Words.{has_number}
+use Rattle.pl_model.specs.Recording.{posted_of}
 use Rattle.pl_model.specs.Due.{is_recorded_about, is_unsent}
 use Rattle.pl_model.specs.Entries.{entry_of}
 use Rattle.pl_model.specs.declared.heard.Fate.{Fate}
@@ -64,7 +66,7 @@ answer_for known (Some asked) = answer_by known asked asked.fate
 
 -- whether the answer of request n would have a longer body than a frame may have
 abbrev pub is_too_long : Spelling → ℕ → Answer → Bool
-is_too_long spelling n answer = nat_lt longest_body (length (spelling.answer_text n answer))
+is_too_long spelling n answer = nat_lt MAX_BODY (length (spelling.answer_text n answer))
 
 abbrev pub shortened : Spelling → Known → ℕ → Answer → Answer
 shortened spelling known n answer =

@@ -2,7 +2,8 @@
 use Rattle.std.specs.Prelude.{ℕ, ◌-◌, Bool, true, false, not, ◌&&◌, ◌||◌, if◌then◌else◌, Option, None, Some, is_some, is_none, List, [], ◌++◌, length, find, map, take, reverse, option_map, option_and_then, slice_get, bytes_eq}
 use Rattle.std.specs.List.{list_any, filter_map, enumerate_from}
 use Rattle.std.specs.Option.{option_or}
-use Rattle.pl_state.specs.Chain.{last_provider, refers_to, some_passes}
+use Rattle.pl_lemmas.specs.Words.{first_in, first_some, has_number, option_list, some_passes}
+use Rattle.pl_state.specs.Chain.{last_provider, refers_to}
 use Rattle.pl_state.specs.Kinds.{is_provided_row}
 use Rattle.pl_state.specs.References.{keeps_urn}
 use Rattle.pl_state.specs.declared.entry.Entry.{Entry}
@@ -37,12 +38,10 @@ use Rattle.pl_model.specs.declared.heard.Fate.{Fate}
 use Rattle.pl_model.specs.declared.heard.Fate.TheVariants.{Refused as refused}
 use Rattle.pl_model.specs.Run.{imports_of, is_destroy, is_refresh, rows_of}
 use Rattle.pl_model.specs.Tickets.{closed_by, errand_at}
-use Rattle.pl_model.specs.Recording.{has_number}
 use Rattle.pl_decide.specs.Limited.{is_create_first}
-use Rattle.pl_model.specs.Claims.{chain_of_goal, claimer_of, first_some}
+use Rattle.pl_model.specs.Claims.{chain_of_goal, claimer_of}
 use Rattle.pl_model.specs.Known.{Known, decided_goal, goal_at, has_problem, is_over, known_by}
-use Rattle.pl_state.specs.References.{option_list}
-use Rattle.pl_model.specs.Requests.{fate_of, first_in}
+use Rattle.pl_model.specs.Requests.{fate_of}
 use Rattle.pl_model.specs.Rows.{is_doomed, is_left, is_sent, pending_at, row_at, row_numbers, takes_along}
 
 -- ---- single events

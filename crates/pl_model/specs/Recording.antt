@@ -2,6 +2,7 @@
 use Rattle.std.specs.Prelude.{ℕ, ◌==◌, Bool, true, false, Option, None, Some, List, [], ◌∷◌, option_and_then}
 use Rattle.std.specs.List.{list_any, filter_map, cons_option}
 use Rattle.std.specs.Option.{option_or}
+use Rattle.pl_lemmas.specs.Words.{only_if}
 use Rattle.pl_events.specs.declared.event.Event.{Event}
 use Rattle.pl_events.specs.declared.event.What.{What}
 use Rattle.pl_events.specs.declared.event.What.TheVariants.{Kept, Dropped, Cleared, Posted}
@@ -43,10 +44,6 @@ goal_of_op (op.Update about) = goal_in about
 goal_of_op (op.Read about) = goal_in about
 goal_of_op _ = None
 
-abbrev pub only_if : {X : Type 0} → Bool → Option X → Option X
-only_if true x = x
-only_if false x = None
-
 -- the goal that an answered operation records, if it records one
 abbrev pub recorded_by_reply : Closed → Option ℕ
 recorded_by_reply closed = only_if (is_thing closed.reply) (goal_of_op closed.op)
@@ -64,9 +61,6 @@ recorded_by past what = option_or (kept_by what) (option_and_then recorded_by_re
 abbrev pub recorded_of : List Event → List ℕ
 recorded_of [] = []
 recorded_of (event ∷ past) = cons_option (recorded_by past event.what) (recorded_of past)
-
-abbrev pub has_number : List ℕ → ℕ → Bool
-has_number numbers number = list_any (λ other. other == number) numbers
 
 -- the number that a kept goal's id is made of, if it has one
 abbrev pub fresh_by : ℕ → What → Option ℕ

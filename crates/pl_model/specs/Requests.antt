@@ -7,11 +7,11 @@ use Rattle.pl_value.specs.Marks.{unknown_text}
 use Rattle.pl_value.specs.declared.value.Value.TheVariants as value
 use Rattle.pl_options.specs.GoalOf.{GoalResult, given, goal_of}
 use Rattle.pl_options.specs.Names.{default_name, default_provider_urn, provider_type}
-use Rattle.pl_state.specs.Chain.{some_passes}
+use Rattle.pl_lemmas.specs.Words.{first_in, option_list, some_passes}
 use Rattle.pl_state.specs.Component.{plain_goal}
 use Rattle.pl_state.specs.Kinds.{is_component, is_provided}
 use Rattle.pl_reference.specs.Reference.{is_reference, reference_in}
-use Rattle.pl_state.specs.References.{further_urns, keeps_urn, option_list}
+use Rattle.pl_state.specs.References.{further_urns, keeps_urn}
 use Rattle.pl_state.specs.declared.entry.Entry.{Entry}
 use Rattle.pl_state.specs.declared.fault.OptionFault.TheVariants.{BadUrn, BadReference}
 use Rattle.pl_state.specs.declared.goal.Goal.{Goal}
@@ -53,9 +53,6 @@ unknown_references known told goal =
     filter (λ urn. not (has_goal known urn)) (option_list goal.parent)
     ++ (filter (λ text. not (is_met_reference known text)) (option_list (given told.provider))
     ++ filter (λ urn. not (has_goal known urn)) (further_urns goal))
-
-abbrev pub first_in : {X : Type 0} → List X → Option X
-first_in xs = slice_get xs 0
 
 -- the number of the goal that a provider reference names
 abbrev pub named_provider : Known → Option (List ℕ) → Option ℕ

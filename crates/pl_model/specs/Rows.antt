@@ -2,7 +2,8 @@
 -- provided for.
 use Rattle.std.specs.Prelude.{ℕ, Bool, not, ◌&&◌, ◌||◌, nat_lt, Option, None, Some, List, length, filter, option_map, option_and_then, slice_get}
 use Rattle.std.specs.List.{list_any, range_with_len}
-use Rattle.pl_state.specs.Chain.{deleter_row_of, goes_along, last_provider, provider_row_of, refers_to, some_passes}
+use Rattle.pl_lemmas.specs.Words.{has_number, is_row, only_if, some_passes}
+use Rattle.pl_state.specs.Chain.{deleter_row_of, goes_along, last_provider, provider_row_of, refers_to}
 use Rattle.pl_state.specs.Kinds.{is_provided_row}
 use Rattle.pl_state.specs.declared.entry.Entry.{Entry}
 use Rattle.pl_state.specs.declared.pending.Pending.{Pending}
@@ -10,10 +11,10 @@ use Rattle.pl_events.specs.declared.operation.Source.{Source}
 use Rattle.pl_events.specs.declared.operation.Source.TheVariants as source
 use Rattle.pl_decide.specs.Permits.{is_wanted}
 use Rattle.pl_model.specs.Run.{rows_of, is_destroy, is_refresh}
-use Rattle.pl_model.specs.Recording.{has_number, only_if, removed_of}
+use Rattle.pl_model.specs.Recording.{removed_of}
 use Rattle.pl_decide.specs.Limited.{is_create_first, is_delete_first}
 use Rattle.pl_model.specs.declared.decided.Decided.{Decided}
-use Rattle.pl_model.specs.Claims.{chain_of_goal, claimer_of, is_claimed, is_row}
+use Rattle.pl_model.specs.Claims.{chain_of_goal, claimer_of, is_claimed}
 use Rattle.pl_model.specs.Known.{Known, decided_goal, goal_at, is_over, is_recorded}
 
 abbrev pub row_at : Known → ℕ → Option Entry

@@ -2,7 +2,6 @@
 use Rattle.std.specs.Prelude.{◌≡◌, ℕ, Bool, true, false, Option, List, []}
 use Rattle.pl_urn.specs.Grammar.{IsScope}
 use Rattle.pl_value.specs.declared.value.Value.{Value}
-use Rattle.pl_world.specs.declared.frames.TheConstants.{MAX_BODY}
 use Rattle.pl_state.specs.declared.entry.Entry.{Entry}
 use Rattle.pl_state.specs.declared.snapshot.Snapshot.{Snapshot}
 use Rattle.pl_events.specs.declared.event.Request.{Request}
@@ -71,11 +70,3 @@ HasNames run = has_host run.mode ≡ true → IsScope run.stack × IsScope run.p
 -- the rows of the state at the start
 abbrev pub rows_of : Fixed → List Entry
 rows_of run = run.base.entries
-
--- the most resources that a state may hold
-abbrev pub most_resources : ℕ
-most_resources = 10000
-
--- the longest body that a frame may have, in bytes
-abbrev pub longest_body : ℕ
-longest_body = MAX_BODY

@@ -2,8 +2,8 @@
 use Rattle.std.specs.Prelude.{◌≡◌, ◌≢◌, ◌<◌, ◌≤◌, ℕ, true, false, All, AllPairs, IfSome, List, [], Some, length}
 use Rattle.pl_sound.specs.Sound.{IsSound}
 use Rattle.pl_reference.specs.declared.reference.ProviderRef.{ProviderRef}
-use Rattle.pl_state.specs.Component.{has_none}
-use Rattle.pl_state.specs.Formed.{is_formed_row}
+use Rattle.pl_lemmas.specs.Words.{has_none}
+use Rattle.pl_state.specs.Formed.{is_formed_row, most_resources}
 use Rattle.pl_state.specs.Kinds.{is_of_provider}
 use Rattle.pl_state.specs.declared.entry.Entry.{Entry}
 use Rattle.pl_events.specs.Replies.{reply_fits}
@@ -12,7 +12,7 @@ use Rattle.pl_events.specs.declared.event.Request.{Request}
 use Rattle.pl_events.specs.declared.operation.Call.{Call}
 use Rattle.pl_events.specs.declared.reply.Reply.{Reply}
 use Rattle.pl_model.specs.declared.fixed.Fixed.{Fixed}
-use Rattle.pl_model.specs.Run.{HasNames, Spelling, imports_of, is_refresh, most_resources, rows_of}
+use Rattle.pl_model.specs.Run.{HasNames, Spelling, imports_of, is_refresh, rows_of}
 use Rattle.pl_model.specs.Claims.{is_usable}
 
 -- a provider reference names the URN of a provider and an id that a reference can name, as each one does that is read

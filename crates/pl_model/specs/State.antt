@@ -24,7 +24,8 @@ use Rattle.pl_model.specs.declared.errand.Closed.{Closed}
 use Rattle.pl_model.specs.declared.fixed.Fixed.{Fixed}
 use Rattle.pl_model.specs.Run.{is_refresh, rows_of}
 use Rattle.pl_model.specs.Tickets.{reply_to}
-use Rattle.pl_model.specs.Recording.{cleared_of, goal_in, has_number, row_in}
+use Rattle.pl_lemmas.specs.Words.{has_number}
+use Rattle.pl_model.specs.Recording.{cleared_of, goal_in, row_in}
 use Rattle.pl_model.specs.Claims.{claimed_row, id_of_row}
 use Rattle.pl_model.specs.Known.{Known, decided_goal, goal_at}
 use Rattle.pl_model.specs.Entries.{goal_entry, new_entries, old_entries, old_row, outputs_of_row, result_with}

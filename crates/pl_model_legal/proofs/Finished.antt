@@ -2,6 +2,7 @@
 use Rattle.std.proofs.Common.{◌≡◌, ℕ, ◌==◌, ◌<◌, Bool, true, false, ◌&&◌, Contains, Option, None, Some, is_some, List, [], ◌∷◌, find, length, cond, refl, ap, subst}
 use Rattle.std.proofs.lemmas.Bool.{and_parts, eqb-true}
 use Rattle.std.specs.List.{list_all}
+use Rattle.pl_lemmas.proofs.Numbers.{contains_number}
 use Rattle.pl_state.specs.declared.snapshot.Snapshot.{Snapshot}
 use Rattle.pl_events.specs.declared.event.Event.{Event}
 use Rattle.pl_model.specs.declared.fixed.Fixed.{Fixed}
@@ -11,8 +12,9 @@ use Rattle.pl_model.specs.Fulfilment.{AllOnce, Fulfils}
 use Rattle.pl_model.specs.History.{known_of}
 use Rattle.pl_model.specs.Known.{Known, all_recorded, is_recorded, number_of}
 use Rattle.pl_model.specs.Posts.{AllAnswered}
-use Rattle.pl_model.specs.Recording.{has_number, posted_of, recorded_of}
-use Rattle.pl_model_legal.proofs.Tests.{contains_number, passes_below}
+use Rattle.pl_lemmas.specs.Words.{has_number}
+use Rattle.pl_model.specs.Recording.{posted_of, recorded_of}
+use Rattle.pl_model_legal.proofs.Tests.{passes_below}
 
 -- a request that is found is one of those whose numbers were posted
 found_posted : (posted : List ℕ) (asked : List Heard) (n : ℕ) → list_all (λ one. has_number posted (number_of one.request)) asked ≡ true

@@ -1,6 +1,6 @@
 -- The first creation: its events may happen, and what they tell is spelled.
 use Rattle.std.proofs.Common.{◌≡◌, true, reverse, refl}
-use Rattle.pl_path.proofs.Depths.{depth-Whole}
+use Rattle.pl_value.proofs.Levels.{depth-Whole}
 use Rattle.pl_model.specs.Legal.{IsOrderly}
 use Rattle.pl_model_rows.proofs.OnHistories.{on_histories}
 use Rattle.pl_model_rows.specs.FirstCreate.{events, run}

@@ -2,7 +2,7 @@
 use Rattle.std.proofs.Common.{◌≡◌, ℕ, ◌==◌, Bool, true, false, not, ◌&&◌, Option, None, Some, is_some, List, [], ◌∷◌, refl, subst}
 use Rattle.std.proofs.lemmas.Bool.{and_from, and_parts, eqb-true, not-true}
 use mathlib.Core.List.{reverse_aux}
-use Rattle.pl_state.specs.Chain.{some_passes}
+use Rattle.pl_lemmas.specs.Words.{some_passes}
 use Rattle.pl_events.specs.Replies.{is_formed_reply, is_reply_to_call, reply_fits}
 use Rattle.pl_events.specs.Requests.{is_formed_request}
 use Rattle.pl_events.specs.declared.event.Event.{Event}

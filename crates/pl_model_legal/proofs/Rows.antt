@@ -9,14 +9,14 @@ use Rattle.pl_sound.specs.Sound.{IsSound, fault_at, finds_all, first_unmet, is_m
 use Rattle.pl_state.specs.Kinds.{is_of_provider}
 use Rattle.pl_state.specs.declared.entry.Entry.{Entry}
 use Rattle.pl_state.specs.declared.fault.Missing.{Missing}
-use Rattle.pl_state.specs.Component.{has_none}
-use Rattle.pl_state.specs.Formed.{is_formed_row}
+use Rattle.pl_lemmas.specs.Words.{has_none}
+use Rattle.pl_state.specs.Formed.{is_formed_row, most_resources}
 use Rattle.pl_state.specs.declared.pending.Pending.{Pending}
 use Rattle.pl_urn.specs.Cut.{colon}
 use Rattle.pl_urn.specs.Grammar.{IsScope}
 use Rattle.pl_model.specs.declared.fixed.Fixed.{Fixed}
 use Rattle.pl_model.specs.Claims.{is_usable}
-use Rattle.pl_model.specs.Run.{imports_of, most_resources, rows_of}
+use Rattle.pl_model.specs.Run.{imports_of, rows_of}
 use Rattle.pl_model.specs.RunData.{IsRun, NameProviders, NamesProvider, most_children}
 
 -- whether each row finds what it wants among those before it

@@ -3,14 +3,15 @@ use Rattle.std.proofs.Common.{◌≡◌, ℕ, ◌+◌, ◌<◌, Bool, true, fals
 use Rattle.std.proofs.lemmas.Bool.{and_parts}
 use Rattle.std.proofs.lemmas.List.Sums.{AllPass-from_list_all}
 use Rattle.std.specs.List.{list_all}
+use Rattle.pl_lemmas.proofs.Numbers.{contains_number}
 use Rattle.pl_events.specs.declared.event.Event.{Event}
 use Rattle.pl_events.specs.declared.event.What.{What}
 use Rattle.pl_events.specs.declared.event.What.TheVariants.{Told, HostGone, Begun, Answered, Lost, Kept, Dropped, Cleared, Posted, Stopped}
 use Rattle.pl_model.specs.declared.fixed.Fixed.{Fixed}
 use Rattle.pl_model.specs.History.{known_of}
-use Rattle.pl_model.specs.Recording.{has_number}
+use Rattle.pl_lemmas.specs.Words.{has_number}
 use Rattle.pl_model.specs.Saves.{AllMarked, HasMark, IsSaved, is_after_save, must_save}
-use Rattle.pl_model_legal.proofs.Tests.{are_rising, contains_number, rising}
+use Rattle.pl_model_legal.proofs.Tests.{are_rising, rising}
 
 -- whether each event that must be saved has its mark
 abbrev pub are_marked : Fixed → List Event → List ℕ → Bool

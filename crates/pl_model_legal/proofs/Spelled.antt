@@ -3,7 +3,7 @@ use Rattle.std.proofs.Common.{◌≡◌, ℕ, ◌==◌, ◌≤◌, Bool, true, f
 use Rattle.std.proofs.lemmas.Bool.{eq-eqb}
 use Rattle.pl_world.specs.Frames.{IsBody}
 use Rattle.pl_world.specs.declared.frames.TheConstants.{MAX_BODY}
-use Rattle.pl_state.specs.Chain.{some_passes}
+use Rattle.pl_lemmas.specs.Words.{only_if, some_passes}
 use Rattle.pl_events.specs.Replies.{reply_fits}
 use Rattle.pl_events.specs.Requests.{is_formed_request}
 use Rattle.pl_events.specs.declared.event.Event.{Event}
@@ -20,7 +20,6 @@ use Rattle.pl_model.specs.Asked.{call_of}
 use Rattle.pl_model.specs.History.{known_of}
 use Rattle.pl_model.specs.Known.{Known, number_of}
 use Rattle.pl_model.specs.Legal.{AreSpelled, HasForm, IsOrderly, IsReplyTo, IsSpelled, MayHappen}
-use Rattle.pl_model.specs.Recording.{only_if}
 use Rattle.pl_model.specs.RunData.{IsSpelling}
 use Rattle.pl_model.specs.Tickets.{errand_at}
 use Rattle.pl_model_legal.specs.Small.{passing, reply_body, reply_in, reply_told, request_body, request_in, request_told, spelling_of}

@@ -3,7 +3,7 @@ use Rattle.std.proofs.Common.{◌≡◌, ℕ, ◌==◌, All, Bool, true, false, 
 use Rattle.std.proofs.lemmas.List.Elements.{All-map}
 use Rattle.pl_world.specs.Frames.{frame_of}
 use Rattle.pl_world.specs.Told.{Piece}
-use Rattle.pl_state.specs.Chain.{some_passes}
+use Rattle.pl_lemmas.specs.Words.{some_passes}
 use Rattle.pl_events.specs.Replies.{reply_fits}
 use Rattle.pl_events.specs.declared.event.Event.{Event}
 use Rattle.pl_events.specs.declared.event.HostEnd.{HostEnd}

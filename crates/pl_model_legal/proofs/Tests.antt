@@ -1,18 +1,11 @@
 -- Facts of numbers and lists by tests that compute.
-use Rattle.std.proofs.Common.{◌≡◌, ℕ, ◌+◌, ◌==◌, ◌<◌, ◌≤◌, Bool, true, false, not, ◌&&◌, nat_lt, All, AllPairs, Contains, Option, None, Some, List, [], ◌∷◌, length, get_or, refl, sym, ◌∙◌, ap, subst, not-suc-le-zero, zero-add}
-use Rattle.std.proofs.lemmas.Bool.{and_parts, eqb-true, ltb-true}
+use Rattle.std.proofs.Common.{◌≡◌, ℕ, ◌<◌, Bool, true, ◌&&◌, nat_lt, AllPairs, List, [], ◌∷◌, length, get_or, sym, ◌∙◌, subst, not-suc-le-zero, zero-add}
+use Rattle.std.proofs.lemmas.Bool.{and_parts, ltb-true}
 use Rattle.std.proofs.lemmas.List.Elements.{All-weaker}
 use Rattle.std.proofs.lemmas.List.FromFn.{get_or-range_with_len, length-range_with_len}
 use Rattle.std.proofs.lemmas.List.Kept.{AllPairs-cons}
 use Rattle.std.proofs.lemmas.List.Sums.{AllPass-from_list_all}
-use Rattle.std.proofs.lemmas.Map.Views.{Contains-from_any}
 use Rattle.std.specs.List.{list_all, range_with_len}
-use Rattle.pl_model.specs.Recording.{has_number}
-
--- a number that is among numbers stands in the list
-pub contains_number : (numbers : List ℕ) (n : ℕ) → has_number numbers n ≡ true → Contains numbers n
-contains_number numbers n h =
-    Contains-from_any {eq = λ wanted other. other == wanted} (λ wanted other same. sym (eqb-true other wanted same)) n numbers h
 
 -- what passes at each number of a range passes at each number below its length
 pub passes_below : (test : ℕ → Bool) (count n : ℕ) → list_all test (range_with_len 0 count) ≡ true → n < count → test n ≡ true

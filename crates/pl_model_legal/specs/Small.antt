@@ -14,9 +14,8 @@ use Rattle.pl_events.specs.declared.operation.Ask.{Ask}
 use Rattle.pl_events.specs.declared.operation.Ask.TheVariants as ask
 use Rattle.pl_events.specs.declared.operation.Call.{Call}
 use Rattle.pl_events.specs.declared.reply.Reply.{Reply}
-use Rattle.pl_model.specs.Claims.{first_some}
+use Rattle.pl_lemmas.specs.Words.{first_some, only_if}
 use Rattle.pl_model.specs.Known.{number_of}
-use Rattle.pl_model.specs.Recording.{only_if}
 use Rattle.pl_model.specs.Run.{Spelling}
 use Rattle.pl_model.specs.Tickets.{says_to}
 

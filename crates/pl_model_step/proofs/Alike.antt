@@ -6,8 +6,9 @@ use Rattle.std.specs.Option.{option_or}
 use Rattle.pl_urn.specs.Grammar.{package_of}
 use Rattle.pl_reference.specs.Reference.{is_reference, reference_in}
 use Rattle.pl_options.specs.GoalOf.{GoalResult, given, goal_of}
-use Rattle.pl_state.specs.Chain.{deleter_row_of, goes_along, refers_to, some_passes}
-use Rattle.pl_state.specs.References.{further_urns, option_list}
+use Rattle.pl_lemmas.specs.Words.{first_in, first_some, has_number, is_row, only_if, option_list, some_passes}
+use Rattle.pl_state.specs.Chain.{deleter_row_of, goes_along, refers_to}
+use Rattle.pl_state.specs.References.{further_urns}
 use Rattle.pl_state.specs.declared.fault.OptionFault.TheVariants.{BadUrn, BadReference}
 use Rattle.pl_state.specs.declared.goal.Goal.{Goal}
 use Rattle.pl_state.specs.declared.goal.Registration.{Registration}
@@ -24,15 +25,15 @@ use Rattle.pl_decide.specs.Permits.{is_wanted, permits_left}
 use Rattle.pl_decide.specs.declared.problem.Problem.TheVariants as problem
 use Rattle.pl_model.specs.Run.{has_host, is_destroy, is_refresh, rows_of}
 use Rattle.pl_model.specs.Tickets.{begun_of, closed_by}
-use Rattle.pl_model.specs.Recording.{fresh_of, goal_in, has_number, only_if, recorded_by, recorded_by_reply, recorded_of, removed_by, removed_by_reply, removed_of, row_in, dropped_by, kept_by}
+use Rattle.pl_model.specs.Recording.{fresh_of, goal_in, recorded_by, recorded_by_reply, recorded_of, removed_by, removed_by_reply, removed_of, row_in, dropped_by, kept_by}
 use Rattle.pl_model.specs.declared.decided.Decided.{Decided}
 use Rattle.pl_decide.specs.Limited.{is_delete_first}
-use Rattle.pl_model.specs.Claims.{chain_of_goal, claimed_row, claimer_of, first_some, id_of_row, is_claimed, is_row, kept_provider_id, goal_number}
+use Rattle.pl_model.specs.Claims.{chain_of_goal, claimed_row, claimer_of, id_of_row, is_claimed, kept_provider_id, goal_number}
 use Rattle.pl_model.specs.Entries.{goal_entry, old_row, outputs_of_row, reference_to, result_by, result_with, turned_entry, turning_of, turnings, result_answered, result_kept}
 use Rattle.pl_model.specs.declared.heard.Fate.TheVariants.{Halted as halted}
 use Rattle.pl_model.specs.Known.{Known, claim_row, decided_goal, goal_at, has_problem, host_ended, is_over, is_recorded, provider_id}
 use Rattle.pl_model.specs.Problems.{decision_problems, end_problems, ends_well, first_row, has_deleted, holds_doomed, is_claimed_beside, is_unpermitted, lacking_in, lacks_provider, limit_problem, made_problems, missing_provider, newly_decided, own_problem, problem_of_closed, problem_of_fate, problem_of_loss, problems_at, request_problem, turned_urn}
-use Rattle.pl_model.specs.Requests.{fate_by, fate_of, first_in, has_goal, has_id, invoke_refusal, invoked_version, is_bad_default, is_met, is_met_reference, refusal_of, refused_if, result_refusal, unknown_references, uses_default}
+use Rattle.pl_model.specs.Requests.{fate_by, fate_of, has_goal, has_id, invoke_refusal, invoked_version, is_bad_default, is_met, is_met_reference, refusal_of, refused_if, result_refusal, unknown_references, uses_default}
 use Rattle.pl_model.specs.Rows.{goes_now, goes_with, is_deletable, is_deleted_first, is_doomed, is_left, is_marked, is_replaced, is_sent, is_taken_out, is_taken_over, is_target, recorded_claimer, row_at, row_numbers, stands_beside, takes_along, was_removed}
 use Rattle.pl_model.specs.State.{creating_entry, opened_by, pending_for, pending_with, updating_entry}
 

@@ -9,7 +9,7 @@ use Rattle.pl_model.specs.History.{known_of}
 use Rattle.pl_model.specs.Known.{Known}
 use Rattle.pl_model.specs.Left.{left_of}
 use Rattle.pl_model.specs.Posts.{answer_of}
-use Rattle.pl_model.specs.Recording.{has_number}
+use Rattle.pl_lemmas.specs.Words.{has_number}
 use Rattle.pl_model.specs.Saves.{must_save}
 use Rattle.pl_model.specs.State.{pending_for, state_now}
 use Rattle.pl_model.specs.Step.{summary_of}

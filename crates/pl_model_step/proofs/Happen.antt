@@ -1,6 +1,6 @@
 -- What may happen after a history may happen after another one with the same summary.
 use Rattle.std.proofs.Common.{◌≡◌, ℕ, ◌==◌, ◌&&◌, List, sym, ◌∙◌, ap}
-use Rattle.pl_state.specs.Chain.{some_passes}
+use Rattle.pl_lemmas.specs.Words.{some_passes}
 use Rattle.pl_events.specs.Replies.{reply_fits}
 use Rattle.pl_events.specs.declared.event.Event.{Event}
 use Rattle.pl_events.specs.declared.event.Stop.{Stop}

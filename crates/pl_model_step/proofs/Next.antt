@@ -1,8 +1,7 @@
 -- What is read of a history for what is chosen, asked, answered, saved and left.
 use Rattle.std.proofs.Common.{◌≡◌, ℕ, ◌+◌, ◌-◌, Bool, not, ◌&&◌, if◌then◌else◌, List, length, filter, find, Option, Some, None, refl, ◌∙◌, option_and_then, option_map}
 use Rattle.std.specs.List.{range_with_len, sum_by}
-use Rattle.pl_state.specs.Chain.{some_passes}
-use Rattle.pl_state.specs.Component.{has_none}
+use Rattle.pl_lemmas.specs.Words.{has_none, has_number, some_passes}
 use Rattle.pl_events.specs.declared.event.Answer.TheVariants.{Noted}
 use Rattle.pl_events.specs.declared.event.Event.{Event}
 use Rattle.pl_events.specs.declared.event.Request.{Request}
@@ -12,7 +11,6 @@ use Rattle.pl_events.specs.declared.event.What.TheVariants.{Told, Answered}
 use Rattle.pl_events.specs.declared.operation.Op.TheVariants as op
 use Rattle.pl_model.specs.Run.{Spelling, is_preview}
 use Rattle.pl_model.specs.Tickets.{same_op}
-use Rattle.pl_model.specs.Recording.{has_number}
 use Rattle.pl_model.specs.Choice.{nothing, sent, too_many, can_be_taken, choice_of, chosen, first_taken, is_too_many, lane_there}
 use Rattle.pl_model.specs.Claims.{goal_number}
 use Rattle.pl_model.specs.declared.work.Work.{Work}

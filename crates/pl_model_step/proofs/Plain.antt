@@ -2,7 +2,7 @@
 use Rattle.std.proofs.Common.{◌≡◌, ℕ, Bool, true, false, ◌||◌, if◌then◌else◌, List, [], ◌∷◌, ◌++◌, map, Option, Some, None, refl, ◌∙◌, ap, option_and_then, option_map}
 use Rattle.std.proofs.lemmas.List.{append-nil}
 use Rattle.std.specs.List.{cons_option, list_any}
-use Rattle.std.specs.Option.{option_or}
+use Rattle.pl_lemmas.proofs.Truth.{or_either}
 use Rattle.pl_events.specs.Closing.{has_host_end, has_stop}
 use Rattle.pl_events.specs.declared.event.Event.{Event}
 use Rattle.pl_events.specs.declared.event.What.TheVariants.{HostGone, Stopped}
@@ -13,7 +13,8 @@ use Rattle.pl_events.specs.declared.reply.Reply.{Reply}
 use Rattle.pl_events.specs.declared.reply.Reply.TheVariants.{Configured, Error}
 use Rattle.pl_model.specs.declared.errand.Errand.{Errand}
 use Rattle.pl_model.specs.Tickets.{begun_of, is_configured_reply, op_at}
-use Rattle.pl_model.specs.Recording.{cleared_of, goal_of_op, is_removed, is_thing, only_if, posted_of, recorded_by_reply, recorded_of, removed_by_reply, removed_of, row_of_delete}
+use Rattle.pl_lemmas.specs.Words.{only_if}
+use Rattle.pl_model.specs.Recording.{cleared_of, goal_of_op, is_removed, is_thing, posted_of, recorded_by_reply, recorded_of, removed_by_reply, removed_of, row_of_delete}
 use Rattle.pl_model.specs.Step.{Summary, event_if, plain_begin, plain_clear, plain_drop, plain_event, plain_history, plain_keep, plain_loss, plain_post, plain_reply, plain_word}
 
 -- what a reading does not see
@@ -35,18 +36,6 @@ listed {Y = Y} reads event seen sees (x ∷ xs) past =
 map_same : {X : Type 0} (xs : List X) → map (λ x. x) xs ≡ xs
 map_same [] = refl
 map_same {X = X} (x ∷ xs) = ap (λ (ys : List X). x ∷ ys) (map_same xs)
-
-pub or_either : (a b c : Bool) → (a || (b || c)) ≡ ((a || b) || c)
-or_either true b c = refl
-or_either false b c = refl
-
-pub or_no : (a : Bool) → (a || false) ≡ a
-or_no true = refl
-or_no false = refl
-
-pub or_none : {X : Type 0} (o : Option X) → option_or o None ≡ o
-or_none None = refl
-or_none (Some x) = refl
 
 -- whether a reading of numbers has one
 pub any_listed : {X : Type 0} (reads : List Event → Bool) (event : X → Event) (test : X → Bool)

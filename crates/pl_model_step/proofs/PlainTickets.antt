@@ -3,16 +3,20 @@ use Rattle.std.proofs.Common.{◌≡◌, ℕ, ◌==◌, Bool, true, false, ◌||
 use Rattle.std.proofs.lemmas.Bool.Decides.{nat_tests}
 use Rattle.std.specs.List.{cons_option, list_any}
 use Rattle.std.specs.Option.{option_or}
+use Rattle.std.proofs.Math.Bool.{or-false}
+use Rattle.pl_lemmas.proofs.Truth.{neither_right}
+use Rattle.pl_lemmas.proofs.Options.{or_none}
 use Rattle.pl_events.specs.declared.event.Event.{Event}
 use Rattle.pl_events.specs.declared.event.What.{What}
 use Rattle.pl_events.specs.declared.event.What.TheVariants.{Kept}
 use Rattle.pl_model.specs.declared.fixed.Fixed.{Fixed}
 use Rattle.pl_model.specs.declared.errand.Errand.{Errand}
 use Rattle.pl_model.specs.Tickets.{has_configured, is_closed, loses}
-use Rattle.pl_model.specs.Recording.{fresh_by, fresh_of, has_number, only_if, recorded_by, recorded_of}
+use Rattle.pl_lemmas.specs.Words.{has_number, only_if}
+use Rattle.pl_model.specs.Recording.{fresh_by, fresh_of, recorded_by, recorded_of}
 use Rattle.pl_model.specs.State.{was_answered}
 use Rattle.pl_model.specs.Step.{Summary, plain_history, plain_keep, plain_loss, plain_reply, plain_word, summary_of}
-use Rattle.pl_model_step.proofs.Plain.{any_listed, drops, keeps, or_no, or_none, over_begins, over_clears, over_drops, over_end, over_keeps, over_losses, over_posts, over_replies, over_stop, over_words, replies, says_none, says_word, words}
+use Rattle.pl_model_step.proofs.Plain.{any_listed, drops, keeps, over_begins, over_clears, over_drops, over_end, over_keeps, over_losses, over_posts, over_replies, over_stop, over_words, replies, says_none, says_word, words}
 
 -- readings by ticket
 abbrev loses_in : ℕ → List Event → Bool
@@ -42,7 +46,7 @@ module _ (summary : Summary) where
       ∙ over_clears summary (loses_in ticket) (λ x past. refl)
       ∙ any_listed (loses_in ticket) plain_loss (is_among ticket) (λ x past. refl) summary.lost (words summary)
       ∙ ap (λ (b : Bool). has_number summary.lost ticket || b) none
-      ∙ or_no (has_number summary.lost ticket)
+      ∙ or-false (has_number summary.lost ticket)
     where
       none : (loses_in ticket) (words summary) ≡ false
       none =
@@ -70,7 +74,7 @@ module _ (summary : Summary) where
       ∙ ap (λ (b : Bool). has_number summary.configured ticket || b)
       (any_listed (answers_in ticket) plain_reply (is_among ticket) (λ x past. refl) summary.answered (keeps summary)
       ∙ ap (λ (b : Bool). has_number summary.answered ticket || b) (no_answer ticket)
-      ∙ or_no (has_number summary.answered ticket))
+      ∙ or-false (has_number summary.answered ticket))
 
   no_close : (ticket : ℕ) → is_closed (keeps summary) ticket ≡ false
   no_close ticket =
@@ -91,7 +95,7 @@ module _ (summary : Summary) where
       ∙ ap (λ (b : Bool). has_number summary.configured ticket || b)
       (any_listed (closes_in ticket) plain_reply (is_among ticket) (λ x past. refl) summary.answered (keeps summary)
       ∙ ap (λ (b : Bool). has_number summary.answered ticket || b) (no_close ticket)
-      ∙ or_no (has_number summary.answered ticket)))
+      ∙ or-false (has_number summary.answered ticket)))
 
   pub plain_configured : (errand : Errand)
       → has_configured (plain_history summary) errand ≡ has_number summary.configured errand.ticket
@@ -104,7 +108,7 @@ module _ (summary : Summary) where
       ∙ any_listed (configures_in errand) plain_word (is_among errand.ticket)
       (λ ticket past. ap (λ (b : Bool). b || configures_in errand past) (says_word (ticket == errand.ticket))) summary.configured (replies summary)
       ∙ ap (λ (b : Bool). has_number summary.configured errand.ticket || b) none
-      ∙ or_no (has_number summary.configured errand.ticket)
+      ∙ or-false (has_number summary.configured errand.ticket)
     where
       none : (configures_in errand) (replies summary) ≡ false
       none =
@@ -151,15 +155,11 @@ module _ (summary : Summary) where
 
 -- ---- the summary of a history
 
-or_false : (a b : Bool) → (a || b) ≡ false → b ≡ false
-or_false true b h = absurd (let e : true ≡ false = h in cc)
-or_false false b h = h
-
 -- a goal that is not recorded has no fresh number
 more_recorded : (past : List Event) (goal : ℕ) (o : Option ℕ) → has_number (cons_option o (recorded_of past)) goal ≡ false
     → has_number (recorded_of past) goal ≡ false
 more_recorded past goal None h = h
-more_recorded past goal (Some number) h = or_false (number == goal) (has_number (recorded_of past) goal) h
+more_recorded past goal (Some number) h = neither_right (number == goal) (has_number (recorded_of past) goal) h
 
 not_kept : (past : List Event) (goal number : ℕ) (fresh : Option ℕ) (b : Bool) → (number == goal) ≡ b
     → (b || has_number (recorded_of past) goal) ≡ false → fresh_of past goal ≡ None

@@ -11,7 +11,7 @@ use Rattle.pl_events.specs.declared.reply.Reply.TheVariants.{Configured}
 use Rattle.pl_model.specs.declared.fixed.Fixed.{Fixed}
 use Rattle.pl_model.specs.declared.errand.Errand.{Errand}
 use Rattle.pl_model.specs.Tickets.{has_configured, is_closed, is_configured_reply, loses, says_configured, closes, closed_by}
-use Rattle.pl_model.specs.Recording.{has_number, only_if}
+use Rattle.pl_lemmas.specs.Words.{has_number, only_if}
 use Rattle.pl_model.specs.declared.decided.Decided.{Decided}
 use Rattle.pl_model.specs.Claims.{claimed_row}
 use Rattle.pl_model.specs.Entries.{recording_of, result_answered, result_by, result_from, result_of_keep}
@@ -21,10 +21,6 @@ use Rattle.pl_model.specs.State.{is_answered, was_answered}
 use Rattle.pl_model.specs.Step.{answered_in, configured_by, configured_in, lost_in, summary_of, tickets_by}
 use Rattle.pl_model_step.specs.Law.{SummaryTells}
 use Rattle.pl_model_step.proofs.Steps.{history_of, run_of}
-
-pub or_true : (a b : Bool) → b ≡ true → (a || b) ≡ true
-or_true true b h = refl
-or_true false b h = h
 
 -- one more of either
 either_first : (b x y z : Bool) → x ≡ (y || z) → (b || x) ≡ ((b || y) || z)

@@ -1,7 +1,8 @@
 -- What is read of a history for the work that is to be done, lanes and the limit aside.
 use Rattle.std.proofs.Common.{◌≡◌, ℕ, not, ◌&&◌, ◌||◌, is_some, is_none, List, Option, refl, option_map, slice_get, bytes_eq}
 use Rattle.std.specs.List.{list_all, list_any}
-use Rattle.pl_state.specs.Chain.{refers_to, some_passes}
+use Rattle.pl_lemmas.specs.Words.{has_number, is_row, none_or, some_passes}
+use Rattle.pl_state.specs.Chain.{refers_to}
 use Rattle.pl_state.specs.Kinds.{is_provider_goal}
 use Rattle.pl_state.specs.References.{further_urns}
 use Rattle.pl_events.specs.declared.event.Event.{Event}
@@ -15,11 +16,10 @@ use Rattle.pl_events.specs.declared.operation.Subject.TheVariants as subject
 use Rattle.pl_model.specs.Asked.{ask_delete, ask_of, ask_row}
 use Rattle.pl_model.specs.Run.{is_preview, is_refresh, rows_of}
 use Rattle.pl_model.specs.Tickets.{same_op}
-use Rattle.pl_model.specs.Recording.{has_number}
 use Rattle.pl_decide.specs.Limited.{is_delete_first, is_refused}
-use Rattle.pl_model.specs.Claims.{chain_of_goal, goal_number, is_row}
+use Rattle.pl_model.specs.Claims.{chain_of_goal, goal_number}
 use Rattle.pl_model.specs.Decisions.{checked_at, is_provider_unknown, needs_check, wants_diff}
-use Rattle.pl_model.specs.Due.{asks_check, asks_diff, at_turn, for_decided, has_open, has_result, holds_urn, is_asked, is_clear_ready, is_delete_ready, is_drop_ready, is_invoke, is_keep_ready, is_placed, is_post_due, is_read_ready, is_recorded_about, is_recorded_urn, is_removable, is_settled, is_settled_fate, is_unsent, is_wanted_op, keeps_goal, none_or, on_goal, on_row, op_of_goal, provider_recorded, provider_stands, references_recorded, sends_goal, way_is_free}
+use Rattle.pl_model.specs.Due.{asks_check, asks_diff, at_turn, for_decided, has_open, has_result, holds_urn, is_asked, is_clear_ready, is_delete_ready, is_drop_ready, is_invoke, is_keep_ready, is_placed, is_post_due, is_read_ready, is_recorded_about, is_recorded_urn, is_removable, is_settled, is_settled_fate, is_unsent, is_wanted_op, keeps_goal, on_goal, on_row, op_of_goal, provider_recorded, provider_stands, references_recorded, sends_goal, way_is_free}
 use Rattle.pl_model.specs.declared.heard.Heard.{Heard}
 use Rattle.pl_model.specs.declared.heard.Fate.{Fate}
 use Rattle.pl_model.specs.declared.heard.Fate.TheVariants.{Halted as halted, Refused as refused, Accepted as accepted}

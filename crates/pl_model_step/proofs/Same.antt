@@ -1,13 +1,14 @@
 -- The plain events of a summary are read as its history is.
 use Rattle.std.proofs.Common.{◌≡◌, ℕ, ◌==◌, Bool, true, false, ◌||◌, List, [], ◌∷◌, refl, sym, ◌∙◌, ap}
 use Rattle.std.specs.List.{cons_option}
+use Rattle.std.proofs.lemmas.Bool.{or_right}
 use Rattle.pl_events.specs.declared.event.Event.{Event}
 use Rattle.pl_events.specs.declared.event.What.{What}
 use Rattle.pl_events.specs.declared.event.What.TheVariants.{Answered}
 use Rattle.pl_events.specs.declared.reply.Reply.{Reply}
 use Rattle.pl_events.specs.declared.reply.Reply.TheVariants.{Configured}
 use Rattle.pl_model.specs.declared.fixed.Fixed.{Fixed}
-use Rattle.pl_model.specs.Recording.{has_number}
+use Rattle.pl_lemmas.specs.Words.{has_number}
 use Rattle.pl_model.specs.Asked.{ask_of}
 use Rattle.pl_model.specs.Due.{is_clear_ready, is_delete_ready, is_drop_ready, is_keep_ready, is_post_due, is_wanted_op}
 use Rattle.pl_model.specs.Entries.{old_row}
@@ -22,7 +23,7 @@ use Rattle.pl_model_step.proofs.Alike.{doomed, left, marked, old, opening, over,
 use Rattle.pl_model_step.proofs.Lanes.{SameTickets, begun, coming, count, errands, free, free_lane, lanes, open_ones, opens, stands}
 use Rattle.pl_model_step.proofs.Plain.{plain_begun, plain_cleared, plain_posted, plain_stop}
 use Rattle.pl_model_step.proofs.PlainTickets.{plain_answered, plain_closed, plain_configured, plain_lost}
-use Rattle.pl_model_step.proofs.Reading.{or_true, tells_answered, tells_closed, tells_configured, tells_lost}
+use Rattle.pl_model_step.proofs.Reading.{tells_answered, tells_closed, tells_configured, tells_lost}
 use Rattle.pl_model_step.proofs.Ready.{asking, clear_ready, delete_ready, drop_ready, keep_ready, post_due, wanted}
 use Rattle.pl_model_step.proofs.Steps.{place, placed, plain_alike}
 use Rattle.pl_model_step.proofs.Whole.{AlikeMost}
@@ -37,7 +38,7 @@ configured_more : (ticket closed : ℕ) (reply : Reply) (words answers : List �
     → has_number (cons_option (configured_by closed reply) words) ticket ≡ true → has_number (closed ∷ answers) ticket ≡ true
 configured_more ticket closed Configured words answers h e =
     or_more (closed == ticket) (has_number words ticket) (has_number answers ticket) h e
-configured_more ticket closed _ words answers h e = or_true (closed == ticket) (has_number answers ticket) (h e)
+configured_more ticket closed _ words answers h e = or_right (closed == ticket) (has_number answers ticket) (h e)
 
 configured_answered : (history : List Event) (ticket : ℕ)
     → has_number (tickets_by configured_in history) ticket ≡ true → has_number (tickets_by answered_in history) ticket ≡ true

@@ -1,8 +1,9 @@
 -- What is decided stays, and more goals and answers decide only what was not decided.
-use Rattle.std.proofs.Common.{◌≡◌, ℕ, ◌==◌, ◌≤◌, ◌<◌, Bool, true, false, not, if◌then◌else◌, nat_lt, List, [], ◌∷◌, ◌++◌, length, Option, Some, None, Ok, Err, refl, sym, ◌∙◌, ap, subst, arith, option_map, option_and_then}
+use Rattle.std.proofs.Common.{◌≡◌, ℕ, ◌==◌, ◌≤◌, Bool, true, false, not, if◌then◌else◌, nat_lt, List, [], ◌∷◌, ◌++◌, length, Option, Some, None, Ok, Err, refl, sym, ◌∙◌, ap, subst, arith, option_map, option_and_then}
 use Rattle.std.proofs.lemmas.Bool.Decides.{nat_tests}
 use Rattle.std.specs.List.{cons_option}
 use Rattle.std.specs.Option.{option_or}
+use Rattle.pl_lemmas.proofs.Numbers.{less_true}
 use Rattle.pl_state.specs.Kinds.{is_provider_goal}
 use Rattle.pl_state.specs.declared.goal.Goal.{Goal}
 use Rattle.pl_state.specs.declared.goal.Diffed.{Diffed}
@@ -104,9 +105,6 @@ decided_short run answers (goal ∷ earlier) =
 not_below : (a b : ℕ) → b ≤ a → nat_lt a b ≡ false
 not_below a b h = grind (arith, nat_tests)
 
-is_below : (a b : ℕ) → a < b → nat_lt a b ≡ true
-is_below a b h = grind (arith, nat_tests)
-
 pub longer : {X : Type 0} (added xs : List X) → length xs ≤ length (added ++ xs)
 longer [] xs = omega arith
 longer (x ∷ added) xs = let h : length xs ≤ length (added ++ xs) = longer added xs in omega arith
@@ -115,7 +113,7 @@ longer (x ∷ added) xs = let h : length xs ≤ length (added ++ xs) = longer ad
 all_settled : (run : Fixed) (answers : List Closed) (decided : List Decided) (goals : List Goal) → length goals ≤ length decided
     → settled run answers decided goals ≡ decided
 all_settled run answers decided [] h = refl
-all_settled run answers decided (goal ∷ earlier) h = rw (is_below (length earlier) (length decided) h) refl
+all_settled run answers decided (goal ∷ earlier) h = rw (less_true (length earlier) (length decided) h) refl
 
 -- where less is decided than there are goals before this one, they come first
 one_settled : (run : Fixed) (answers : List Closed) (decided : List Decided) (goal : Goal) (earlier : List Goal)

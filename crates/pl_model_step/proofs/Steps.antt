@@ -4,7 +4,8 @@ use Rattle.std.proofs.Math.Numerals.{suc-eq-add-one}
 use Rattle.std.proofs.lemmas.List.{append-nil}
 use Rattle.std.specs.List.{cons_option}
 use Rattle.std.specs.Option.{option_or}
-use Rattle.pl_state.specs.References.{option_list}
+use Rattle.pl_lemmas.proofs.Options.{or_none}
+use Rattle.pl_lemmas.specs.Words.{option_list}
 use Rattle.pl_events.specs.declared.event.Event.{Event}
 use Rattle.pl_events.specs.declared.event.Request.{Request}
 use Rattle.pl_events.specs.declared.event.What.{What}
@@ -25,7 +26,7 @@ use Rattle.pl_model.specs.State.{opened_by, opened_of}
 use Rattle.pl_model.specs.Step.{Summary, after, answer, begin, configured_by, keep, known_in, plain_history, results_after, settle, settled, summary_of, tell}
 use Rattle.pl_model_step.specs.Law.{SummarySteps}
 use Rattle.pl_model_step.proofs.Alike.{Alike, closed_alike, recorded_alike, removed_alike, result_alike, same_fate, same_opened, same_problems}
-use Rattle.pl_model_step.proofs.Plain.{or_none, plain_begun, plain_host, plain_recorded, plain_removed}
+use Rattle.pl_model_step.proofs.Plain.{plain_begun, plain_host, plain_recorded, plain_removed}
 use Rattle.pl_model_step.proofs.PlainTickets.{same_fresh}
 use Rattle.pl_model_step.proofs.Unchanged.{only_made, only_own, stays_over}
 use Rattle.pl_model_step.proofs.Settling.{added_goals, settled_answered, settled_told}

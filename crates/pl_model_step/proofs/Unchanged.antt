@@ -4,15 +4,14 @@ use Rattle.std.proofs.Common.{◌≡◌, ℕ, zero, suc, ◌+◌, ◌-◌, ◌�
 use Rattle.std.proofs.Math.Nat.{sub_self}
 use Rattle.std.proofs.lemmas.List.{append-nil}
 use Rattle.std.specs.List.{filter_map, list_all, range_with_len}
-use Rattle.pl_state.specs.References.{option_list}
+use Rattle.pl_lemmas.specs.Words.{first_in, has_number, option_list}
 use Rattle.pl_state.specs.declared.goal.Goal.{Goal}
 use Rattle.pl_events.specs.declared.event.What.{What}
 use Rattle.pl_model.specs.declared.fixed.Fixed.{Fixed}
 use Rattle.pl_model.specs.Run.{has_host}
-use Rattle.pl_model.specs.Recording.{has_number, recorded_of}
+use Rattle.pl_model.specs.Recording.{recorded_of}
 use Rattle.pl_model.specs.Known.{Known, all_recorded, has_problem, host_ended, is_over, is_recorded}
 use Rattle.pl_model.specs.Problems.{end_problems, ends_well, made_problems, missing_provider, newly_decided, own_problem, problems_at, refusal_in, request_problem}
-use Rattle.pl_model.specs.Requests.{first_in}
 use Rattle.pl_model.specs.Step.{Summary, known_in, plain_history}
 use Rattle.pl_model_step.proofs.Plain.{plain_host, plain_recorded}
 use Rattle.pl_model_step.proofs.Settling.{Added, longer}

@@ -8,7 +8,8 @@ use Rattle.pl_events.specs.declared.operation.Subject.TheVariants as subject
 use Rattle.pl_model.specs.declared.fixed.Fixed.{Fixed}
 use Rattle.pl_model.specs.Run.{is_refresh}
 use Rattle.pl_model.specs.Tickets.{reply_to}
-use Rattle.pl_model.specs.Recording.{cleared_of, has_number, posted_of}
+use Rattle.pl_lemmas.specs.Words.{has_number}
+use Rattle.pl_model.specs.Recording.{cleared_of, posted_of}
 use Rattle.pl_model.specs.declared.decided.Decided.{Decided}
 use Rattle.pl_model.specs.Entries.{entry_of, new_entries, old_entries, result_from, told_outputs, with_outputs}
 use Rattle.pl_model.specs.Known.{Known, decided_goal, goal_at}

@@ -1,7 +1,8 @@
 -- What is read of a history for the work that is due.
 use Rattle.std.proofs.Common.{◌≡◌, ℕ, ◌+◌, ◌==◌, not, ◌&&◌, ◌||◌, if◌then◌else◌, nat_lt, is_none, List, length, filter, refl, option_and_then, option_map}
 use Rattle.std.specs.List.{list_any, range_with_len}
-use Rattle.pl_state.specs.Chain.{last_provider, provider_row_of, some_passes}
+use Rattle.pl_lemmas.specs.Words.{some_passes}
+use Rattle.pl_state.specs.Chain.{last_provider, provider_row_of}
 use Rattle.pl_events.specs.declared.event.Event.{Event}
 use Rattle.pl_events.specs.declared.operation.Op.{Op}
 use Rattle.pl_events.specs.declared.operation.Op.TheVariants as op
@@ -9,7 +10,8 @@ use Rattle.pl_events.specs.declared.operation.Source.{Source}
 use Rattle.pl_events.specs.declared.operation.Source.TheVariants as source
 use Rattle.pl_events.specs.declared.operation.Subject.{Subject}
 use Rattle.pl_events.specs.declared.operation.Subject.TheVariants as subject
-use Rattle.pl_model.specs.Run.{most_resources, rows_of}
+use Rattle.pl_model.specs.Run.{rows_of}
+use Rattle.pl_state.specs.Formed.{most_resources}
 use Rattle.pl_model.specs.Tickets.{is_source, reply_to}
 use Rattle.pl_decide.specs.Limited.{is_create_first}
 use Rattle.pl_model.specs.Decisions.{checked_in}

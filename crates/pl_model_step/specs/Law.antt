@@ -6,7 +6,7 @@ use Rattle.pl_events.specs.declared.event.Event.{Event}
 use Rattle.pl_model.specs.declared.fixed.Fixed.{Fixed}
 use Rattle.pl_model.specs.declared.errand.Errand.{Errand}
 use Rattle.pl_model.specs.Tickets.{has_configured, is_closed, loses}
-use Rattle.pl_model.specs.Recording.{has_number}
+use Rattle.pl_lemmas.specs.Words.{has_number}
 use Rattle.pl_model.specs.declared.decided.Decided.{Decided}
 use Rattle.pl_model.specs.Entries.{recording_of}
 use Rattle.pl_model.specs.History.{known_of}

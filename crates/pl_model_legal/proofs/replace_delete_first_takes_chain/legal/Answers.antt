@@ -1,5 +1,5 @@
 use Rattle.std.proofs.Common.{reverse, refl}
-use Rattle.pl_path.proofs.Depths.{depth-Whole}
+use Rattle.pl_value.proofs.Levels.{depth-Whole}
 use Rattle.pl_model_rows.proofs.OnHistories.{on_histories}
 use Rattle.pl_model_rows.specs.TakesChain.{run}
 use Rattle.pl_model_legal.specs.ChainDone.{all_events}

@@ -1,6 +1,6 @@
 use Rattle.std.proofs.Common.{◌≡◌, ◌∙◌, None, Some, sym, ap}
 use Rattle.std.specs.List.{slice_get}
-use Rattle.pl_state.specs.Chain.{some_passes}
+use Rattle.pl_lemmas.specs.Words.{some_passes}
 use Rattle.pl_errands.proofs.Seen.{configured_seen}
 use Rattle.pl_errands.proofs.errands.Errands.is_configured.Goals as goal
 

@@ -1,6 +1,6 @@
 use Rattle.std.proofs.Common.{◌≡◌, ◌∙◌, None, Some, sym, ap}
 use Rattle.std.specs.List.{slice_get}
-use Rattle.pl_state.specs.Chain.{some_passes}
+use Rattle.pl_lemmas.specs.Words.{some_passes}
 use Rattle.pl_errands.specs.Lanes.{is_out_lane}
 use Rattle.pl_errands.proofs.Seen.{out_seen}
 use Rattle.pl_errands.proofs.errands.Errands.is_out.Goals as goal
