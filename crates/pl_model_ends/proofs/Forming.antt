@@ -1,7 +1,10 @@
 -- The state of an orderly history has the form that the checkpoint gives it, where the state at the start has.
-use Rattle.std.proofs.Common.{◌≡◌, ℕ, ◌+◌, ◌==◌, Bool, true, false, not, if◌then◌else◌, All, List, [], ◌∷◌, ◌++◌, filter, find, length, map, reverse, slice_get, Option, Some, None, Ok, Err, refl, sym, ◌∙◌, subst, arith, option_map, option_and_then, zero, suc, inl, inr}
+use Rattle.std.proofs.Common.{◌≡◌, ℕ, ◌+◌, ◌==◌, Bool, true, false, not, if◌then◌else◌, List, [], ◌∷◌, ◌++◌, filter, find, length, map, reverse, slice_get, Option, Some, None, Ok, Err, refl, sym, ◌∙◌, subst, option_map, option_and_then, suc}
 use Rattle.std.specs.List.{cons_option, enumerate_from, fold}
 use Rattle.std.specs.Option.{option_or}
+use Rattle.std.proofs.lemmas.Option.{same_Some}
+use Rattle.pl_lemmas.proofs.Truth.{and_right}
+use Rattle.pl_lemmas.proofs.Each.{Each, each_always, each_weaker, each_append, each_reverse, each_all, all_each, among_each, each_at}
 use Rattle.pl_urn.specs.Grammar.{package_of}
 use Rattle.pl_options.specs.GoalOf.{GoalResult, given, goal_of}
 use Rattle.pl_options.specs.Ignored.{with_ignored}
@@ -40,49 +43,31 @@ use Rattle.pl_model.specs.declared.heard.Fate.TheVariants.{Accepted as accepted,
 use Rattle.pl_model.specs.declared.heard.Heard.{Heard}
 use Rattle.pl_model.specs.Run.{Pairs, is_refresh, rows_of}
 use Rattle.pl_model.specs.Asked.{call_of}
-use Rattle.pl_model.specs.Claims.{claimed_row, first_some, id_of_row, numbered}
+use Rattle.pl_lemmas.specs.Words.{first_some, has_number, numbered, only_if}
+use Rattle.pl_lemmas.proofs.Options.{passing}
+use Rattle.pl_model.specs.Claims.{claimed_row, id_of_row}
 use Rattle.pl_model.specs.Decisions.{Turn, checked_at, checked_in, claim_at, decided_at, decided_by, diff_at, inputs_at, inputs_over, kin_at, needs_check, turn_of}
 use Rattle.pl_model.specs.Entries.{Result, goal_entry, new_entries, numbers_in, old_entries, old_row, outputs_of_row, recorded_entry, recording_of, result_answered, result_by, result_from, result_of_keep, result_of_reply, result_with, row_now as stands_now, told_by, told_outputs, turned_entry, turnings, with_outputs}
 use Rattle.pl_model.specs.History.{asked_after, goals_after, known_of}
 use Rattle.pl_model.specs.Known.{Known, decided_goal, goal_at}
 use Rattle.pl_model.specs.Legal.{IsOrderly, MayHappen}
-use Rattle.pl_model.specs.Recording.{has_number, only_if, recorded_by_reply, recorded_of}
+use Rattle.pl_model.specs.Recording.{recorded_by_reply, recorded_of}
 use Rattle.pl_model.specs.Requests.{asked_by, default_goal, default_urn, fate_of, goals_by, goals_made, has_goal, inputs_or, invoked_version, named_provider, uses_default, version_inputs, with_default, with_goal, with_invoked, with_provider, with_result}
 use Rattle.pl_model.specs.Rows.{is_marked, is_to_be_made, left_rows, pending_at, row_at}
 use Rattle.pl_model.specs.State.{base_pending, creating_entry, entries_now, found_by, imported_by, imported_entries, is_cleared, opened_by, opened_of, own_pending, pending_for, pending_of, pending_read, pending_with, refreshed_entries, row_read, rows_read, state_of, updating_entry, updating_result, was_answered}
 use Rattle.pl_model.specs.Tickets.{answers_of, errand_at, op_at, reply_if, reply_to, same_op}
-use Rattle.pl_model_laws.proofs.Among.{IsAmong, find_among}
-use Rattle.pl_model_laws.proofs.Claiming.{was-made}
-use Rattle.pl_model_laws.proofs.Growing.{run_of}
-use Rattle.pl_model_laws.proofs.Once.{and_right, history_of}
-use Rattle.pl_model_laws.proofs.Pairs.{Each, each-all, each-append, each-filter, each-mapped, each-reverse, each-weaker}
-use Rattle.pl_model_laws.proofs.Standing.{answers_as, closed_with}
-use Rattle.pl_model_laws.proofs.Staying.{passes_some, some_same}
-use Rattle.pl_model_laws.proofs.Wants.{each_map}
+use Rattle.pl_model_stays.proofs.Among.{find_among}
+use Rattle.pl_model_stays.proofs.Claiming.{was-made}
+use Rattle.pl_model_stays.proofs.Growing.{run_of}
+use Rattle.pl_model_stays.proofs.Once.{history_of}
+use Rattle.pl_model_stays.proofs.Pairs.{each-filter, each-mapped, each_map}
+use Rattle.pl_model_stays.proofs.Standing.{answers_as, closed_with}
 use Rattle.pl_model_ends.specs.Ends.{StatesFormed}
 use Rattle.pl_model_ends.proofs.Forms.{Form, GoalForm, IfFormed, IfResult, entry-form, form-of, formed-by, keep-form, outputs-form, pruned-form, refreshed-form, replaced-form, reply-form, told-form, told-outputs-form, turns-form, with_form}
 use Rattle.pl_model_ends.proofs.Fulfilling.{event_of, opened_with}
 use Rattle.pl_model_ends.proofs.Shallow.{ignored-shallow, version-shallow}
 
 -- ---- lists
-
-all_each : {X : Type 0} (P : X → Type 0) (xs : List X) → All P xs → Each P xs
-all_each P [] h = tt
-all_each P (x ∷ xs) h = (h 0 x (omega arith), all_each P xs (λ k d low. h (suc k) d (omega arith)))
-
-each_any : {X : Type 0} (P : X → Type 0) → ((x : X) → P x) → (xs : List X) → Each P xs
-each_any P h [] = tt
-each_any P h (x ∷ xs) = (h x, each_any P h xs)
-
-pub among_each : {X : Type 0} (P : X → Type 0) (xs : List X) (x : X) → Each P xs → IsAmong x xs → P x
-among_each P [] x all there = absurd there
-among_each {X = X} P (y ∷ ys) x all (inl same) = subst (λ (z : X). P z) (sym same) all.0
-among_each P (y ∷ ys) x all (inr there) = among_each P ys x all.1 there
-
-at_each : {X : Type 0} (P : X → Type 0) (xs : List X) (i : ℕ) (x : X) → Each P xs → slice_get xs i ≡ Some x → P x
-at_each P [] i x all h = absurd (let e : None ≡ Some x = h in cc)
-at_each {X = X} P (y ∷ ys) zero x all h = subst (λ (z : X). P z) (some_same y x h) all.0
-at_each P (y ∷ ys) (suc i) x all h = at_each P ys i x all.1 h
 
 numbered_each : {X : Type 0} (P : X → Type 0) (n : ℕ) (xs : List X) → Each P xs → Each (λ (one : ℕ × X). P one.1) (enumerate_from n xs)
 numbered_each P n [] all = tt
@@ -103,7 +88,7 @@ module _ (run : Fixed) (rows : Each Form (rows_of run)) where
     where
       by : (o : Option Entry) → slice_get (rows_of run) row ≡ o → IfFormed o
       by None is = tt
-      by (Some entry) is = at_each Form (rows_of run) row entry rows is
+      by (Some entry) is = each_at Form (rows_of run) row entry rows is
 
   kin_form : (o : Option Entry) → IfFormed o → IfFormed (kin_of o)
   kin_form None form = tt
@@ -215,7 +200,7 @@ module _ (run : Fixed) (rows : Each Form (rows_of run)) where
   reply_formed : (past : List Event) (seat ticket : ℕ) (said : Reply) → MayHappen (known_of run past) seat (Answered ticket said)
       → is_formed_reply said ≡ true
   reply_formed past seat ticket said may =
-      let it = passes_some (λ errand. reply_fits (call_of errand.op) said) (errand_at (known_of run past).history ticket) may.fits in
+      let it = passing (λ errand. reply_fits (call_of errand.op) said) (errand_at (known_of run past).history ticket) may.fits in
       and_right (is_reply_to_call (call_of it.0.op) said) (is_formed_reply said) it.2
 
   answers_step : (seat : ℕ) (past : List Event) (what : What) → MayHappen (known_of run past) seat what → Each Answers (answers_of past)
@@ -240,7 +225,7 @@ module _ (run : Fixed) (rows : Each Form (rows_of run)) where
       by : (o : Option Reply) → reply_to earlier about ≡ o → (b : Bool) → option_or o (reply_if b closed.reply) ≡ Some said
           → (reply_to earlier about ≡ Some said → is_formed_reply said ≡ true) → is_formed_reply said ≡ true
       by (Some other) is b h rest = rest (is ∙ h)
-      by None is true h rest = subst (λ (one : Reply). is_formed_reply one ≡ true) (some_same closed.reply said h) all.0
+      by None is true h rest = subst (λ (one : Reply). is_formed_reply one ≡ true) (same_Some closed.reply said h) all.0
       by None is false h rest = absurd (let e : None ≡ Some said = h in cc)
 
   -- ---- checked inputs
@@ -251,7 +236,7 @@ module _ (run : Fixed) (rows : Each Form (rows_of run)) where
     where
       by : (o : Option Reply) → reply_to answers about ≡ o → checked_in o ≡ Some checked → are_shallow checked ≡ true
       by (Some (reply.Checked fields)) is h =
-          subst (λ (one : Pairs). are_shallow one ≡ true) (some_same fields checked h) (reply_among answers about (reply.Checked fields) all is)
+          subst (λ (one : Pairs). are_shallow one ≡ true) (same_Some fields checked h) (reply_among answers about (reply.Checked fields) all is)
       by _ is h = absurd (let e : None ≡ Some checked = h in cc)
 
   module _ (answers : List Closed) (all : Each Answers answers) (earlier : List Goal) (before : List Decided) (goal : Goal) (form : GoalForm goal) where
@@ -278,7 +263,7 @@ module _ (run : Fixed) (rows : Each Form (rows_of run)) where
             → are_shallow checked ≡ true
         by true needed h = checked_reply answers (op.CheckConfig (subject.Goal (length earlier))) checked all h
         by false true h = checked_reply answers (op.Check (subject.Goal (length earlier))) checked all h
-        by false false h = subst (λ (one : Pairs). are_shallow one ≡ true) (some_same (inputs_at turn) checked h) inputs_low
+        by false false h = subst (λ (one : Pairs). are_shallow one ≡ true) (same_Some (inputs_at turn) checked h) inputs_low
 
     decided_low : (one : Decided) → decided_at turn ≡ Some one → are_shallow one.checked ≡ true
     decided_low one h = by (checked_at turn) refl (diff_at turn) h
@@ -288,7 +273,7 @@ module _ (run : Fixed) (rows : Each Form (rows_of run)) where
         by None is diff h = absurd (let e : None ≡ Some one = h in cc)
         by (Some fields) is None h = absurd (let e : None ≡ Some one = h in cc)
         by (Some fields) is (Some diff) h =
-            subst (λ (it : Decided). are_shallow it.checked ≡ true) (some_same (decided_by turn fields diff) one h) (checked_low fields is)
+            subst (λ (it : Decided). are_shallow it.checked ≡ true) (same_Some (decided_by turn fields diff) one h) (checked_low fields is)
 
   each_numbered : {X : Type 0} (P : X → Type 0) (xs : List X) (number : ℕ) (x : X) → Each P xs
       → numbered xs number ≡ Some x → P x
@@ -297,7 +282,7 @@ module _ (run : Fixed) (rows : Each Form (rows_of run)) where
     where
       by : (b : Bool) → (if b then Some newest else numbered earlier number) ≡ Some x
           → (numbered earlier number ≡ Some x → P x) → P x
-      by true h rest = subst (λ (one : X). P one) (some_same newest x h) all.0
+      by true h rest = subst (λ (one : X). P one) (same_Some newest x h) all.0
       by false h rest = rest h
 
   -- the checked inputs of each decided goal are not too deep
@@ -364,7 +349,7 @@ module _ (run : Fixed) (rows : Each Form (rows_of run)) where
           where
             at : (b : Bool) → only_if b (Some fields) ≡ Some outputs → are_shallow outputs ≡ true
             at true h =
-                subst (λ (it : Pairs). are_shallow it ≡ true) (some_same fields outputs h)
+                subst (λ (it : Pairs). are_shallow it ≡ true) (same_Some fields outputs h)
                 (and_right (is_request_number n) (are_shallow fields) formed)
             at false h = absurd (let e : None ≡ Some outputs = h in cc)
         one _ about formed h = absurd (let e : None ≡ Some outputs = h in cc)
@@ -384,7 +369,7 @@ module _ (run : Fixed) (rows : Each Form (rows_of run)) where
             → option_map (with_outputs (told_outputs now number)) (option_map (goal_entry now goal one) o) ≡ Some row → Form row
         made goal one stands decided None form h = absurd (let e : None ≡ Some row = h in cc)
         made goal one stands decided (Some result) form h =
-            subst (λ (it : Entry). Form it) (some_same _ row h)
+            subst (λ (it : Entry). Form it) (same_Some _ row h)
             (told-outputs-form (told_outputs now number) (goal_entry now goal one result)
             (entry-form now goal one result (goal_form number goal stands) (checked-low history number one orderly decided) form)
             (λ outputs told. told_low number now.asked outputs (asked-formed history orderly) told))
@@ -403,13 +388,13 @@ module _ (run : Fixed) (rows : Each Form (rows_of run)) where
     new_formed : Each Form (new_entries now)
     new_formed =
         each-mapped (recorded_entry now) Form (reverse (recorded_of now.history))
-        (each_any (λ number. (row : Entry) → recorded_entry now number ≡ Some row → Form row) recorded_form (reverse (recorded_of now.history)))
+        (each_always (λ number. (row : Entry) → recorded_entry now number ≡ Some row → Form row) recorded_form (reverse (recorded_of now.history)))
 
     -- ---- old rows
 
     base_form : (row : ℕ) (entry : Entry) → row_at now row ≡ Some entry → Form entry
     base_form row entry h =
-        at_each Form (rows_of run) row entry rows (subst (λ (fixed : Fixed). slice_get (rows_of fixed) row ≡ Some entry) (run_of run history) h)
+        each_at Form (rows_of run) row entry rows (subst (λ (fixed : Fixed). slice_get (rows_of fixed) row ≡ Some entry) (run_of run history) h)
 
     marked_form : (entry : Entry) (doomed again : Bool) → Form entry → Form (record entry { doomed = doomed; pending_replacement = again })
     marked_form entry doomed again form = record {
@@ -426,13 +411,13 @@ module _ (run : Fixed) (rows : Each Form (rows_of run)) where
         by : (o : Option Entry) → row_at now row ≡ o → option_map (stands_now now row) o ≡ Some entry → Form entry
         by None is h = absurd (let e : None ≡ Some entry = h in cc)
         by (Some base) is h =
-            subst (λ (it : Entry). Form it) (some_same (stands_now now row base) entry h)
+            subst (λ (it : Entry). Form it) (same_Some (stands_now now row base) entry h)
             (marked_form (fold turned_entry base (turnings now)) (is_marked now row) (is_to_be_made now row) (turns-form (turnings now) base (base_form row base is)))
 
     old_formed : Each Form (old_entries now)
     old_formed =
         each-mapped (old_row now) Form (left_rows now)
-        (each_any (λ row. (entry : Entry) → old_row now row ≡ Some entry → Form entry) old_form (left_rows now))
+        (each_always (λ row. (entry : Entry) → old_row now row ≡ Some entry → Form entry) old_form (left_rows now))
 
     -- ---- what is opened
 
@@ -445,7 +430,7 @@ module _ (run : Fixed) (rows : Each Form (rows_of run)) where
         by None stands one decided h = absurd (let e : None ≡ Some entry = h in cc)
         by (Some goal) stands None decided h = absurd (let e : None ≡ Some entry = h in cc)
         by (Some goal) stands (Some one) decided h =
-            subst (λ (it : Entry). Form it) (some_same (goal_entry now goal one (result_with None [] [])) entry h)
+            subst (λ (it : Entry). Form it) (same_Some (goal_entry now goal one (result_with None [] [])) entry h)
             (entry-form now goal one (result_with None [] []) (goal_form number goal stands) (checked-low history number one orderly decided)
             (with_form None [] [] refl refl))
 
@@ -467,14 +452,14 @@ module _ (run : Fixed) (rows : Each Form (rows_of run)) where
         by None stands one decided h = absurd (let e : None ≡ Some entry = h in cc)
         by (Some goal) stands None decided h = absurd (let e : None ≡ Some entry = h in cc)
         by (Some goal) stands (Some one) decided h =
-            subst (λ (it : Entry). Form it) (some_same (updating_result now goal one) entry h)
+            subst (λ (it : Entry). Form it) (same_Some (updating_result now goal one) entry h)
             (over goal one (goal_form number goal stands) (checked-low history number one orderly decided) (claimed_row now.run one.claim)
             (subst (λ (fixed : Fixed). IfFormed (claimed_row fixed one.claim)) (sym (run_of run history)) (row_form one.claim)))
 
     with_kind : (kind : PendingKind) (o : Option Entry) (pending : Pending) → ((entry : Entry) → o ≡ Some entry → Form entry)
         → pending_with kind o ≡ Some pending → Form pending.entry
     with_kind kind None pending form h = absurd (let e : None ≡ Some pending = h in cc)
-    with_kind kind (Some entry) pending form h = subst (λ (it : Pending). Form it.entry) (some_same _ pending h) (form entry refl)
+    with_kind kind (Some entry) pending form h = subst (λ (it : Pending). Form it.entry) (same_Some _ pending h) (form entry refl)
 
     opens_form : (about : Op) (pending : Pending) → pending_for now about ≡ Some pending → Form pending.entry
     opens_form (op.Create (subject.Goal number)) pending h = with_kind Creating (creating_entry now number) pending (creating_form number) h
@@ -524,11 +509,11 @@ module _ (run : Fixed) (rows : Each Form (rows_of run)) where
         each_map (λ (opened : Opened). opened.pending) IsPending
         (filter (λ (opened : Opened). not (was_answered history opened.ticket)) (reverse (opened_of run history)))
         (each-filter Opens (λ (opened : Opened). not (was_answered history opened.ticket)) (reverse (opened_of run history))
-        (each-reverse Opens (opened_of run history) (opened_formed history orderly)))
+        (each_reverse Opens (opened_of run history) (opened_formed history orderly)))
 
     pending_formed : Each IsPending (pending_of known)
     pending_formed =
-        each-append IsPending (base_pending known) (own_pending known.run known.history) base_formed
+        each_append IsPending (base_pending known) (own_pending known.run known.history) base_formed
         (subst (λ (fixed : Fixed). Each IsPending (own_pending fixed known.history)) (sym (run_of run history))
         (subst (λ (events : List Event). Each IsPending (own_pending run events)) (sym (history_of run history)) own_formed))
 
@@ -558,7 +543,7 @@ module _ (run : Fixed) (rows : Each Form (rows_of run)) where
     read_formed =
         each_map (λ (row : ℕ × Entry). row_read row.1 (reply_to known.answers (op.Read (subject.Row row.0)))) IsRead
         (enumerate_from 0 (rows_of known.run))
-        (each-weaker (λ (row : ℕ × Entry). Form row.1)
+        (each_weaker (λ (row : ℕ × Entry). Form row.1)
         (λ (row : ℕ × Entry). IsRead (row_read row.1 (reply_to known.answers (op.Read (subject.Row row.0)))))
         (λ row form. read_form row.1 (reply_to known.answers (op.Read (subject.Row row.0))) form
         (λ said is. reply_among known.answers (op.Read (subject.Row row.0)) said answers_now is))
@@ -566,7 +551,7 @@ module _ (run : Fixed) (rows : Each Form (rows_of run)) where
 
     found_form : (entry row : Entry) (said : Reply) → Form entry → is_formed_reply said ≡ true → found_by entry (Some said) ≡ Some row → Form row
     found_form entry row (reply.Found id inputs outputs) form formed h =
-        subst (λ (it : Entry). Form it) (some_same _ row h) (refreshed-form entry id inputs outputs form formed)
+        subst (λ (it : Entry). Form it) (same_Some _ row h) (refreshed-form entry id inputs outputs form formed)
     found_form entry row _ form formed h = absurd (let e : None ≡ Some row = h in cc)
 
     imports_form : (closed : Closed) → Answers closed → (row : Entry) → imported_by known closed ≡ Some row → Form row
@@ -576,7 +561,7 @@ module _ (run : Fixed) (rows : Each Form (rows_of run)) where
             → option_and_then (λ (pending : Pending). found_by pending.entry (Some closed.reply)) o ≡ Some row → Form row
         at place None is h = absurd (let e : None ≡ Some row = h in cc)
         at place (Some pending) is h =
-            found_form pending.entry row closed.reply (at_each IsPending known.run.base.pending place pending pendings_now is) formed h
+            found_form pending.entry row closed.reply (each_at IsPending known.run.base.pending place pending pendings_now is) formed h
 
         by : (o : Option ℕ)
             → option_and_then (λ (place : ℕ). option_and_then (λ (pending : Pending). found_by pending.entry (Some closed.reply)) (pending_at known place)) o
@@ -587,8 +572,8 @@ module _ (run : Fixed) (rows : Each Form (rows_of run)) where
     imported_formed : Each Form (imported_entries known)
     imported_formed =
         each-mapped (imported_by known) Form (reverse known.answers)
-        (each-weaker Answers (λ closed. (row : Entry) → imported_by known closed ≡ Some row → Form row) imports_form (reverse known.answers)
-        (each-reverse Answers known.answers answers_now))
+        (each_weaker Answers (λ closed. (row : Entry) → imported_by known closed ≡ Some row → Form row) imports_form (reverse known.answers)
+        (each_reverse Answers known.answers answers_now))
 
     abbrev IsLeft : Left → Type 0
     IsLeft left = Form left.row
@@ -602,22 +587,22 @@ module _ (run : Fixed) (rows : Each Form (rows_of run)) where
     left_formed place [] read forms reads = tt
     left_formed place (row ∷ base) [] forms reads = (forms.0, left_formed (suc place) base [] forms.1 tt)
     left_formed place (row ∷ base) (one ∷ read) forms reads =
-        each-append IsLeft (left_of place row one) (rows_left (suc place) base read) (left_form place row one forms.0 reads.0)
+        each_append IsLeft (left_of place row one) (rows_left (suc place) base read) (left_form place row one forms.0 reads.0)
         (left_formed (suc place) base read forms.1 reads.1)
 
     pruned_formed : (base earlier : List Entry) (lefts : List Left) → Each Form earlier → Each IsLeft lefts → Each Form (pruned_behind base earlier lefts)
     pruned_formed base earlier [] forms lefts = forms
     pruned_formed base earlier (left ∷ more) forms lefts =
         pruned_formed base (earlier ++ pruned_row base earlier left ∷ []) more
-        (each-append Form earlier (pruned_row base earlier left ∷ []) forms (pruned-form base earlier left lefts.0, tt)) lefts.1
+        (each_append Form earlier (pruned_row base earlier left ∷ []) forms (pruned-form base earlier left lefts.0, tt)) lefts.1
 
     refreshed_formed : Each Form (refreshed_entries known)
     refreshed_formed =
         pruned_formed (rows_of known.run) [] (all_left (rows_of known.run) (rows_read known) (imported_entries known)) tt
-        (each-append IsLeft (map (replaced_left (imported_entries known)) (rows_left 0 (rows_of known.run) (rows_read known)))
+        (each_append IsLeft (map (replaced_left (imported_entries known)) (rows_left 0 (rows_of known.run) (rows_read known)))
         (imported_left (rows_of known.run) (imported_entries known))
         (each_map (replaced_left (imported_entries known)) IsLeft (rows_left 0 (rows_of known.run) (rows_read known))
-        (each-weaker IsLeft (λ left. IsLeft (replaced_left (imported_entries known) left))
+        (each_weaker IsLeft (λ left. IsLeft (replaced_left (imported_entries known) left))
         (λ left form. replaced-form (imported_entries known) left.row form) (rows_left 0 (rows_of known.run) (rows_read known))
         (left_formed 0 (rows_of known.run) (rows_read known) rows_now read_formed)))
         (each_map (λ (entry : Entry). left_at (length (rows_of known.run)) entry) IsLeft (imported_entries known) imported_formed))
@@ -627,21 +612,21 @@ module _ (run : Fixed) (rows : Each Form (rows_of run)) where
       where
         by : (b : Bool) → Each Form (if b then refreshed_entries known else new_entries known ++ old_entries known)
         by true = refreshed_formed
-        by false = each-append Form (new_entries known) (old_entries known) (new_formed history orderly) (old_formed history orderly)
+        by false = each_append Form (new_entries known) (old_entries known) (new_formed history orderly) (old_formed history orderly)
 
 -- ---- the law
 
 pub states-formed : StatesFormed
 states-formed = λ run history start orderly.
     let rows : Each Form (rows_of run) =
-    each-weaker Formed Form form-of (rows_of run) (all_each Formed (rows_of run) start.entries) in
+    each_weaker Formed Form form-of (rows_of run) (all_each Formed (rows_of run) start.entries) in
     let pendings : Each (λ pending. Form pending.entry) run.base.pending =
-    each-weaker (λ pending. Formed pending.entry) (λ pending. Form pending.entry) (λ pending h. form-of pending.entry h) run.base.pending
+    each_weaker (λ pending. Formed pending.entry) (λ pending. Form pending.entry) (λ pending h. form-of pending.entry h) run.base.pending
     (all_each (λ pending. Formed pending.entry) run.base.pending start.pending) in
     record {
-      entries = each-all Formed (state_of run history).entries
-          (each-weaker Form Formed formed-by (state_of run history).entries (entries_formed run rows pendings history orderly));
-      pending = each-all (λ pending. Formed pending.entry) (state_of run history).pending
-          (each-weaker (λ pending. Form pending.entry) (λ pending. Formed pending.entry) (λ pending form. formed-by pending.entry form)
+      entries = each_all Formed (state_of run history).entries
+          (each_weaker Form Formed formed-by (state_of run history).entries (entries_formed run rows pendings history orderly));
+      pending = each_all (λ pending. Formed pending.entry) (state_of run history).pending
+          (each_weaker (λ pending. Form pending.entry) (λ pending. Formed pending.entry) (λ pending form. formed-by pending.entry form)
           (state_of run history).pending (pending_formed run rows pendings history orderly));
     }

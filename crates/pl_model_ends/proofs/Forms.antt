@@ -2,6 +2,8 @@
 use Rattle.std.proofs.Common.{◌≡◌, ℕ, suc, Bool, true, false, not, ◌&&◌, ◌||◌, if◌then◌else◌, unwrap_or, List, [], ◌∷◌, ◌++◌, map, Option, Some, None, Ok, Err, refl, ◌∙◌, ap, subst, option_map}
 use Rattle.std.specs.List.{fold, list_any}
 use Rattle.std.specs.Option.{option_or}
+use Rattle.pl_lemmas.proofs.Truth.{and_left, and_right}
+use Rattle.pl_lemmas.proofs.Options.{neither, mapped_none}
 use Rattle.uuid.specs.Text.{by_index}
 use Rattle.pl_value.specs.Keys.{are_rising, keys_of}
 use Rattle.pl_value.specs.Secrets.{marked}
@@ -10,7 +12,7 @@ use Rattle.pl_urn.specs.declared.fault.UrnFault.{UrnFault}
 use Rattle.pl_urn.specs.declared.fault.UrnFault.TheVariants.{BadType}
 use Rattle.pl_options.specs.GoalOf.{bad_part, bad_reference, bad_urn, given, goal_of, option_fault, plain_goal_of, unless_fault}
 use Rattle.pl_options.specs.Names.{id_text}
-use Rattle.pl_state.specs.Component.{has_none}
+use Rattle.pl_lemmas.specs.Words.{has_none}
 use Rattle.pl_state.specs.Formed.{are_shallow, is_formed_row, is_none_or_filled}
 use Rattle.pl_state.specs.References.{has_urn}
 use Rattle.pl_state.specs.Kinds.{is_component, is_provider_goal}
@@ -31,9 +33,7 @@ use Rattle.pl_model.specs.Run.{Pairs}
 use Rattle.pl_model.specs.Claims.{id_of_row, is_usable, kept_provider_id, usable_id}
 use Rattle.pl_model.specs.Entries.{Result, Turning, goal_entry, is_keep, is_update, kept_changed, kept_id, kept_new, kept_planned, kept_same, new_id, outputs_of_row, planned_by, result_of_keep, result_of_reply, result_with, turned, turned_entry, with_outputs}
 use Rattle.pl_model.specs.Known.{Known}
-use Rattle.pl_model_laws.proofs.Distinct.{or_none}
-use Rattle.pl_model_laws.proofs.Once.{and_left, and_right}
-use Rattle.pl_model_laws.proofs.Troubles.{and_made}
+use Rattle.pl_model_stays.proofs.Once.{both as and_made}
 use Rattle.pl_model_ends.proofs.Shallow.{marked-shallow, planned-shallow}
 
 -- ---- rows
@@ -88,10 +88,6 @@ given_filled None = refl
 given_filled (Some []) = refl
 given_filled (Some (byte ∷ more)) = refl
 
-made_none : {X Y : Type 0} (f : X → Y) (o : Option X) → option_map f o ≡ None → o ≡ None
-made_none f None h = refl
-made_none f (Some x) h = absurd (let e : Some (f x) ≡ None = h in cc)
-
 part_none : (told : Registration) (o : Option UrnFault) → bad_part told o ≡ None → o ≡ None
 part_none told None h = refl
 part_none told (Some fault) h = absurd (never fault h)
@@ -110,9 +106,9 @@ kind_filled (byte ∷ more) name h = refl
 told_kind : (told : Registration) → option_fault told ≡ None → not (has_none told.kind) ≡ true
 unfolding option_fault
 told_kind told h =
-    let rest = or_none (option_map BadReference (bad_reference told)) _ h in
-    let urn = or_none (option_map BadUrn (bad_urn told)) _ rest.1 in
-    kind_filled told.kind told.name (part_none told (child_fault told.kind told.name) (made_none BadUrn (bad_urn told) urn.0))
+    let rest = neither (option_map BadReference (bad_reference told)) _ h in
+    let urn = neither (option_map BadUrn (bad_urn told)) _ rest.1 in
+    kind_filled told.kind told.name (part_none told (child_fault told.kind told.name) (mapped_none BadUrn (bad_urn told) urn.0))
 
 -- the goal of a registration has the form of one
 plain_form : (stack project : List ℕ) (told : Registration) → is_formed_registration told ≡ true → option_fault told ≡ None

@@ -2,6 +2,9 @@
 use Rattle.std.proofs.Common.{◌≡◌, ℕ, ◌<◌, Bool, true, false, not, ◌&&◌, ◌||◌, if◌then◌else◌, inl, inr, List, [], ◌∷◌, ◌++◌, Contains, filter, filter_map, length, map, reverse, Option, Some, None, is_some, refl, sym, ◌∙◌, ap, subst, arith, option_map}
 use Rattle.std.proofs.lemmas.List.{append-nil, length-reverse}
 use Rattle.std.specs.List.{cons_option, enumerate_from, list_any}
+use Rattle.std.proofs.lemmas.Bool.{or_right}
+use Rattle.pl_lemmas.proofs.Numbers.{same_number, range_passes, contains_number}
+use Rattle.pl_lemmas.proofs.Each.{Each, IsAmong, each_weaker, each_reverse, all_found}
 use Rattle.pl_state.specs.declared.entry.Entry.{Entry}
 use Rattle.pl_state.specs.declared.pending.Pending.{Pending}
 use Rattle.pl_events.specs.declared.event.Event.{Event}
@@ -20,24 +23,22 @@ use Rattle.pl_model.specs.Fulfilment.{AllOnce}
 use Rattle.pl_model.specs.History.{known_of}
 use Rattle.pl_model.specs.Known.{Known, all_recorded, has_problem, host_ended, is_over, is_recorded}
 use Rattle.pl_model.specs.Legal.{IsOrderly}
-use Rattle.pl_model.specs.Recording.{has_number, recorded_of}
+use Rattle.pl_lemmas.specs.Words.{has_number}
+use Rattle.pl_model.specs.Recording.{recorded_of}
 use Rattle.pl_model.specs.Rows.{is_left, is_target, row_numbers, takes_along}
 use Rattle.pl_model.specs.State.{base_pending, entries_now, is_answered, is_cleared, opened_by, opened_of, own_pending, pending_for, pending_of, refreshed_entries, was_answered}
 use Rattle.pl_model.specs.Tickets.{begun_of, is_closed}
+use Rattle.pl_model_stays.proofs.Growing.{numbered_below, run_of}
+use Rattle.pl_model_stays.proofs.KeptEntries.{recorded-has-entry}
+use Rattle.pl_model_stays.proofs.Once.{history_of, both}
+use Rattle.pl_model_stays.proofs.Recorded.{recorded-held, recorded_at_most_once}
+use Rattle.pl_model_stays.proofs.Staying.{recorded-as}
+use Rattle.pl_model_stays.proofs.Ticketing.{WasAnswered, closed_answered, closed_errand}
 use Rattle.pl_model_laws.specs.Quiet.{IsAllDone}
-use Rattle.pl_model_laws.proofs.Among.{IsAmong}
-use Rattle.pl_model_laws.proofs.Growing.{numbered_below, run_of, same_number}
-use Rattle.pl_model_laws.proofs.KeptEntries.{recorded-has-entry}
-use Rattle.pl_model_laws.proofs.Once.{history_of}
-use Rattle.pl_model_laws.proofs.Pairs.{Each, each-reverse, each-weaker}
 use Rattle.pl_model_laws.proofs.Quieting.{quiet-is-done}
-use Rattle.pl_model_laws.proofs.Recorded.{recorded-held, recorded_at_most_once}
-use Rattle.pl_model_laws.proofs.Staying.{recorded-as}
-use Rattle.pl_model_laws.proofs.Ticketing.{WasAnswered, closed_answered, closed_errand}
-use Rattle.pl_model_laws.proofs.Troubles.{and_made, or_first}
-use Rattle.pl_model_laws.proofs.Waiting.{either}
+use Rattle.pl_model_laws.proofs.Troubles.{or_first}
 use Rattle.pl_model_ends.specs.Ends.{UpFulfils}
-use Rattle.pl_model_ends.proofs.Numbers.{all_found, all_once, contains_number, each_number, none_kept, range_passes}
+use Rattle.pl_model_ends.proofs.Numbers.{all_once, each_number, none_kept}
 
 -- ---- nothing is pending
 
@@ -58,7 +59,7 @@ module _ (run : Fixed) where
     where
       grown : Each (HasErrand (event_of seat (Begun ticket lane about) ∷ past)) (opened_of run past)
       grown =
-          each-weaker (HasErrand past) (HasErrand (event_of seat (Begun ticket lane about) ∷ past))
+          each_weaker (HasErrand past) (HasErrand (event_of seat (Begun ticket lane about) ∷ past))
           (λ opened h. (h.0, inr h.1, h.2)) (opened_of run past) rest
 
       by : (o : Option Pending)
@@ -79,7 +80,7 @@ was_heard (event ∷ past) ticket said (inl is) =
     or_first (is_answered ticket event.what) (was_answered past ticket)
     (ap (λ (what : What). is_answered ticket what) is ∙ same_number ticket)
 was_heard (event ∷ past) ticket said (inr h) =
-    either (is_answered ticket event.what) (was_answered past ticket) (was_heard past ticket said h)
+    or_right (is_answered ticket event.what) (was_answered past ticket) (was_heard past ticket said h)
 
 module _ (run : Fixed) (history : List Event) (orderly : IsOrderly run history)
     (calm : has_problem (known_of run history) ≡ false) (quiet : IsQuiet (known_of run history)) where
@@ -95,8 +96,8 @@ module _ (run : Fixed) (history : List Event) (orderly : IsOrderly run history)
   own-none =
       ap (λ (left : List Opened). map (λ (opened : Opened). opened.pending) left)
       (none_kept (λ opened. not (was_answered history opened.ticket)) (reverse (opened_of run history))
-      (each-reverse (λ opened. not (was_answered history opened.ticket) ≡ false) (opened_of run history)
-      (each-weaker (HasErrand history) (λ opened. not (was_answered history opened.ticket) ≡ false) answered
+      (each_reverse (λ opened. not (was_answered history opened.ticket) ≡ false) (opened_of run history)
+      (each_weaker (HasErrand history) (λ opened. not (was_answered history opened.ticket) ≡ false) answered
       (opened_of run history) (opened-errands run history))))
 
   base_none : run.base.pending ≡ [] → base_pending (known_of run history) ≡ []
@@ -118,7 +119,7 @@ module _ (run : Fixed) (history : List Event) (orderly : IsOrderly run history)
 not_left : (left other target cause : Bool) → other ≡ true → target ≡ true → cause ≡ true → (left && other && target && cause) ≡ false → left ≡ false
 not_left true other target cause is wanted over none =
     absurd (let e : (other && target && cause) ≡ false = none in
-    let whole : (other && target && cause) ≡ true = and_made (other && target) cause (and_made other target is wanted) over in
+    let whole : (other && target && cause) ≡ true = both (other && target) cause (both other target is wanted) over in
     let f : true ≡ false = sym whole ∙ e in cc)
 not_left false other target cause is wanted over none = refl
 
@@ -131,7 +132,7 @@ module _ (run : Fixed) (history : List Event) (up : run.mode ≡ Up) (done : IsA
   is_up = ap (λ (fixed : Fixed). fixed.mode) (run_of run history) ∙ up
 
   over : is_over known ≡ true
-  over = and_made (host_ended known) (all_recorded known) ended done.recorded
+  over = both (host_ended known) (all_recorded known) ended done.recorded
 
   none_left : (row : ℕ) → is_left known row ≡ false
   none_left row =
@@ -185,8 +186,8 @@ module _ (run : Fixed) (history : List Event) (orderly : IsOrderly run history) 
   pub new-many : length (new_entries now) ≡ length now.goals
   new-many =
       all_found (recorded_entry now) (reverse (recorded_of now.history))
-      (each-reverse (λ k. is_some (recorded_entry now k) ≡ true) (recorded_of now.history)
-      (each-weaker (λ k. has_number (recorded_of now.history) k ≡ true) (λ k. is_some (recorded_entry now k) ≡ true) entry_there
+      (each_reverse (λ k. is_some (recorded_entry now k) ≡ true) (recorded_of now.history)
+      (each_weaker (λ k. has_number (recorded_of now.history) k ≡ true) (λ k. is_some (recorded_entry now k) ≡ true) entry_there
       (recorded_of now.history) (each_number (recorded_of now.history))))
       ∙ length-reverse (recorded_of now.history)
       ∙ all-once.count

@@ -3,7 +3,11 @@ use Rattle.std.proofs.Common.{◌≡◌, ℕ, ◌+◌, ◌≤◌, ◌==◌, Bool
 use Rattle.std.proofs.lemmas.List.{length-append, length-reverse}
 use Rattle.std.proofs.lemmas.List.FromFn.{length-range_with_len}
 use Rattle.std.specs.List.{cons_option, range_with_len}
-use Rattle.pl_state.specs.Chain.{some_passes}
+use Rattle.pl_lemmas.proofs.Truth.{and_left, and_right}
+use Rattle.pl_lemmas.proofs.Numbers.{same_number, equal_numbers}
+use Rattle.pl_lemmas.proofs.Each.{IsAmong, each_weaker, each_reverse, all_found}
+use Rattle.pl_lemmas.specs.Words.{has_number, is_row, only_if, some_passes}
+use Rattle.pl_lemmas.proofs.Options.{passing}
 use Rattle.pl_state.specs.Kinds.{kin_of}
 use Rattle.pl_state.specs.declared.entry.Entry.{Entry}
 use Rattle.pl_events.specs.declared.event.Event.{Event}
@@ -21,30 +25,30 @@ use Rattle.pl_model.specs.declared.decided.Decided.{Decided}
 use Rattle.pl_model.specs.declared.errand.Errand.{Errand}
 use Rattle.pl_model.specs.declared.fixed.Fixed.{Fixed}
 use Rattle.pl_model.specs.Run.{is_refresh, rows_of}
-use Rattle.pl_model.specs.Claims.{claimed_row, is_row}
+use Rattle.pl_model.specs.Claims.{claimed_row}
 use Rattle.pl_model.specs.Due.{claim_leaves, is_carried_out, op_of_decision, reads_goal}
 use Rattle.pl_model.specs.Entries.{is_update, new_entries, old_entries, old_row, recorded_entry, row_now}
 use Rattle.pl_model.specs.History.{known_of}
 use Rattle.pl_model.specs.Known.{Known, decided_goal, is_recorded}
 use Rattle.pl_model.specs.Legal.{IsOrderly}
-use Rattle.pl_model.specs.Recording.{goal_of_op, has_number, is_thing, only_if, recorded_by, recorded_by_reply, recorded_of}
+use Rattle.pl_model.specs.Recording.{goal_of_op, is_thing, recorded_by, recorded_by_reply, recorded_of}
 use Rattle.pl_model.specs.Rows.{is_left, left_rows, row_numbers}
 use Rattle.pl_model.specs.State.{refreshed_entries, was_answered}
 use Rattle.pl_model.specs.Tickets.{begun_of, errand_at, is_closed, is_open, was_begun}
+use Rattle.pl_model_stays.proofs.Among.{find_among}
+use Rattle.pl_model_stays.proofs.Growing.{decisions-stay, run_of}
+use Rattle.pl_model_stays.proofs.KeptDue.{update_kin}
+use Rattle.pl_model_stays.proofs.KeptEntries.{recorded-has-entry}
+use Rattle.pl_model_stays.proofs.Once.{history_of, not_true, unclosed}
+use Rattle.pl_model_stays.proofs.Pairs.{each-passes}
+use Rattle.pl_model_stays.proofs.Recorded.{begun-held, recording-new}
+use Rattle.pl_model_stays.proofs.Standing.{closed_with}
+use Rattle.pl_model_stays.proofs.Staying.{errand_sent, recorded-as, sent_begun}
+use Rattle.pl_model_stays.proofs.Waiting.{false_or}
 use Rattle.pl_model_laws.proofs.Along.{left-row}
-use Rattle.pl_model_laws.proofs.Among.{IsAmong, find_among}
-use Rattle.pl_model_laws.proofs.Growing.{decisions-stay, equal_numbers, run_of, same_number}
-use Rattle.pl_model_laws.proofs.KeptDue.{update_kin}
-use Rattle.pl_model_laws.proofs.KeptEntries.{recorded-has-entry}
-use Rattle.pl_model_laws.proofs.Once.{and_left, and_right, history_of, not_true, unclosed}
-use Rattle.pl_model_laws.proofs.Pairs.{each-passes, each-reverse, each-weaker}
-use Rattle.pl_model_laws.proofs.Recorded.{begun-held, recording-new}
 use Rattle.pl_model_laws.proofs.Removing.{later-now, recorded-gone, unrecorded-left}
-use Rattle.pl_model_laws.proofs.Standing.{closed_with}
-use Rattle.pl_model_laws.proofs.Staying.{errand_sent, passes_some, recorded-as, sent_begun}
-use Rattle.pl_model_laws.proofs.Waiting.{false_or}
 use Rattle.pl_model_ends.proofs.Fulfilling.{event_of}
-use Rattle.pl_model_ends.proofs.Numbers.{all_found, each_number}
+use Rattle.pl_model_ends.proofs.Numbers.{each_number}
 use Rattle.pl_model_ends.proofs.Tally.{kept_low, one_added}
 use Rattle.pl_model_ends.proofs.Moving.{Moves, entries_many, parts_of}
 use Rattle.pl_model_ends.proofs.Weighing.{answered_closed, base_else, creation-opened, left_else, left_gone, left_many, open_closed, open_else, open_many, own_closed, own_else, own_many}
@@ -64,8 +68,8 @@ module _ (run : Fixed) (history : List Event) (orderly : IsOrderly run history) 
   new_many : length (new_entries known) ≡ length (recorded_of history)
   new_many =
       all_found (recorded_entry known) (reverse (recorded_of known.history))
-      (each-reverse (λ k. is_some (recorded_entry known k) ≡ true) (recorded_of known.history)
-      (each-weaker (λ k. has_number (recorded_of known.history) k ≡ true) (λ k. is_some (recorded_entry known k) ≡ true) entry_there
+      (each_reverse (λ k. is_some (recorded_entry known k) ≡ true) (recorded_of known.history)
+      (each_weaker (λ k. has_number (recorded_of known.history) k ≡ true) (λ k. is_some (recorded_entry known k) ≡ true) entry_there
       (recorded_of known.history) (each_number (recorded_of known.history))))
       ∙ length-reverse (recorded_of known.history)
       ∙ ap (λ (events : List Event). length (recorded_of events)) (history_of run history)
@@ -79,7 +83,7 @@ module _ (run : Fixed) (history : List Event) (orderly : IsOrderly run history) 
   unfolding left_many
   old_many =
       all_found (old_row known) (left_rows known)
-      (each-weaker (λ row. is_left known row ≡ true) (λ row. is_some (old_row known row) ≡ true) row_there
+      (each_weaker (λ row. is_left known row ≡ true) (λ row. is_some (old_row known row) ≡ true) row_there
       (left_rows known) (each-passes (is_left known) (row_numbers known)))
       ∙ ap (λ (fixed : Fixed). length (filter (is_left known) (range_with_len 0 (length (rows_of fixed))))) (run_of run history)
 
@@ -140,7 +144,7 @@ module _ (run : Fixed) (seat : ℕ) (past : List Event) (ticket : ℕ) (said : R
     (orderly : IsOrderly run (event_of seat (Answered ticket said) ∷ past)) where
   pub errand : (errand : Errand) × (errand_at past ticket ≡ Some errand)
   errand =
-      let it = passes_some (λ errand. errand.seat == seat) (errand_at (known_of run past).history ticket)
+      let it = passing (λ errand. errand.seat == seat) (errand_at (known_of run past).history ticket)
       (and_right (is_open (known_of run past).history ticket) _ orderly.1.closes) in
       (it.0, subst (λ (events : List Event). errand_at events ticket ≡ Some it.0) (history_of run past) it.1)
 
@@ -258,9 +262,9 @@ module _ (run : Fixed) (other : is_refresh run.mode ≡ false) where
     where
       gone : left_many run (event_of seat (Kept number fresh) ∷ past) + 1 ≤ left_many run past
       gone =
-          let one = passes_some (λ (one : Decided). some_passes (is_left (known_of run past)) one.claim && not (is_create_first one.decision))
+          let one = passing (λ (one : Decided). some_passes (is_left (known_of run past)) one.claim && not (is_create_first one.decision))
           (decided_goal (known_of run past) number) h in
-          let row = passes_some (is_left (known_of run past)) one.0.claim (and_left _ (not (is_create_first one.0.decision)) one.2) in
+          let row = passing (is_left (known_of run past)) one.0.claim (and_left _ (not (is_create_first one.0.decision)) one.2) in
           claim-leaves run (event_of seat (Kept number fresh)) past orderly number row.0 one.0 one.1
           (ap (λ (claim : Option ℕ). is_row claim row.0) row.1 ∙ same_number row.0)
           (not_true (is_create_first one.0.decision) (and_right (some_passes (is_left (known_of run past)) one.0.claim) _ one.2))

@@ -2,6 +2,8 @@
 use Rattle.std.proofs.Common.{◌≡◌, ◌⊎◌, ℕ, ◌+◌, ◌≤◌, ◌==◌, Bool, true, false, not, ◌&&◌, if◌then◌else◌, inl, inr, List, [], ◌∷◌, filter, length, map, nat_lt, Option, None, refl, ap, arith}
 use Rattle.std.proofs.lemmas.Bool.Decides.{nat_tests}
 use Rattle.std.specs.List.{enumerate_from}
+use Rattle.pl_lemmas.proofs.Truth.{and_right}
+use Rattle.pl_lemmas.proofs.Numbers.{equal_numbers}
 use Rattle.pl_state.specs.declared.pending.Pending.{Pending}
 use Rattle.pl_events.specs.declared.event.Event.{Event}
 use Rattle.pl_events.specs.declared.event.What.{What}
@@ -10,16 +12,16 @@ use Rattle.pl_events.specs.declared.operation.Op.{Op}
 use Rattle.pl_events.specs.declared.reply.Reply.{Reply}
 use Rattle.pl_model.specs.declared.fixed.Fixed.{Fixed}
 use Rattle.pl_model.specs.declared.work.Work.TheVariants.{Keep as to_keep, Send as to_send}
-use Rattle.pl_model.specs.Run.{most_resources, rows_of}
+use Rattle.pl_model.specs.Run.{rows_of}
+use Rattle.pl_state.specs.Formed.{most_resources}
 use Rattle.pl_model.specs.Due.{added_by_op, claim_leaves, count_of, is_counted, is_due, is_due_on, is_ready, is_ready_on, passes_limit}
 use Rattle.pl_model.specs.History.{known_of}
 use Rattle.pl_model.specs.Legal.{IsOrderly, MayHappen}
 use Rattle.pl_model.specs.Recording.{recorded_of}
 use Rattle.pl_model.specs.State.{entries_now, is_cleared, opened_by, opened_of}
 use Rattle.pl_model.specs.Tickets.{answers_of, begun_of}
-use Rattle.pl_model_laws.proofs.Counting.{no_more}
-use Rattle.pl_model_laws.proofs.Growing.{equal_numbers}
-use Rattle.pl_model_laws.proofs.Once.{and_right, not_true}
+use Rattle.pl_model_stays.proofs.Counting.{no_more}
+use Rattle.pl_model_stays.proofs.Once.{not_true}
 use Rattle.pl_model_ends.specs.Ends.{start_count}
 use Rattle.pl_model_ends.proofs.Fulfilling.{event_of}
 use Rattle.pl_model_ends.proofs.Tally.{kept_mapped, numbers_aside}

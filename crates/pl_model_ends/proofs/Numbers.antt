@@ -1,54 +1,22 @@
 -- Lists of numbers, and what a filter leaves.
-use Rattle.std.proofs.Common.{◌≡◌, ℕ, zero, suc, ◌+◌, ◌<◌, ◌≤◌, ◌==◌, Bool, true, false, not, ◌||◌, cond, ◌⊎◌, inl, inr, List, [], ◌∷◌, Contains, filter, filter_map, length, Option, Some, None, is_some, refl, sym, ap, subst, arith, eq-or-lt_of_le, zero-lt-suc}
+use Rattle.std.proofs.Common.{◌≡◌, ℕ, zero, suc, ◌+◌, ◌<◌, ◌≤◌, ◌==◌, Bool, true, false, not, ◌||◌, cond, ◌⊎◌, inl, inr, List, [], ◌∷◌, filter, length, refl, sym, ap, subst, arith, eq-or-lt_of_le}
 use Rattle.std.proofs.lemmas.Bool.Decides.{nat_tests}
-use Rattle.std.specs.List.{cons_option, list_all, list_any, range_with_len}
-use Rattle.pl_model.specs.Recording.{has_number}
-use Rattle.pl_model_laws.proofs.Among.{IsAmong}
-use Rattle.pl_model_laws.proofs.Growing.{equal_numbers, same_number}
-use Rattle.pl_model_laws.proofs.Once.{and_left, and_right}
-use Rattle.pl_model_laws.proofs.Pairs.{Each, each-weaker}
-use Rattle.pl_model_laws.proofs.Wants.{each_names}
+use Rattle.std.specs.List.{list_any, range_with_len}
+use Rattle.pl_lemmas.proofs.Numbers.{same_number, equal_numbers}
+use Rattle.pl_lemmas.proofs.Each.{Each, IsAmong, each_weaker}
+use Rattle.pl_lemmas.specs.Words.{has_number}
+use Rattle.pl_model_stays.proofs.Pairs.{each_names}
 
 -- a filter leaves nothing where each does not pass
 pub none_kept : {X : Type 0} (p : X → Bool) (xs : List X) → Each (λ x. p x ≡ false) xs → filter p xs ≡ []
 none_kept p [] none = refl
 none_kept p (x ∷ xs) none = rw none.0 (none_kept p xs none.1)
 
--- what is found for each is as much as there is
-pub all_found : {X Y : Type 0} (f : X → Option Y) (xs : List X) → Each (λ x. is_some (f x) ≡ true) xs
-    → length (filter_map f xs) ≡ length xs
-all_found f [] there = refl
-all_found {X = X} {Y = Y} f (x ∷ xs) there = by (f x) there.0 (all_found f xs there.1)
-  where
-    by : (o : Option Y) → is_some o ≡ true → length (filter_map f xs) ≡ length xs
-        → length (cons_option o (filter_map f xs)) ≡ length (x ∷ xs)
-    by None is rest = absurd (let e : false ≡ true = is in cc)
-    by (Some y) is rest = omega arith
-
 -- each number of a list is one of it
 pub each_number : (xs : List ℕ) → Each (λ n. has_number xs n ≡ true) xs
 each_number xs =
-    each-weaker (λ x. (y : ℕ) → (x == y) ≡ true → list_any (λ z. z == y) xs ≡ true) (λ n. has_number xs n ≡ true)
+    each_weaker (λ x. (y : ℕ) → (x == y) ≡ true → list_any (λ z. z == y) xs ≡ true) (λ n. has_number xs n ≡ true)
     (λ x names. names x (same_number x)) xs (each_names (λ (x y : ℕ). x == y) xs)
-
-pub contains_number : (xs : List ℕ) (k : ℕ) → has_number xs k ≡ true → Contains xs k
-contains_number [] k h = absurd (let e : false ≡ true = h in cc)
-contains_number (x ∷ xs) k h = by (x == k) refl (contains_number xs k) h
-  where
-    by : (b : Bool) → (x == k) ≡ b → (has_number xs k ≡ true → Contains xs k) → (b || has_number xs k) ≡ true → Contains (x ∷ xs) k
-    by true is rest h = (0, zero-lt-suc (length xs), grind (arith, nat_tests))
-    by false is rest h = let found : Contains xs k = rest h in (suc found.0, omega arith, found.2)
-
--- a number of a range passes what all of them pass
-pub range_passes : (test : ℕ → Bool) (a n k : ℕ) → a ≤ k → k < a + n → list_all test (range_with_len a n) ≡ true → test k ≡ true
-range_passes test a zero k low high h = absurd (omega arith)
-range_passes test a (suc n) k low high h =
-    by (eq-or-lt_of_le low) (and_left (test a) _ h)
-    (λ later. range_passes test (a + 1) n k (omega arith) (omega arith) (and_right (test a) _ h))
-  where
-    by : (a ≡ k) ⊎ (a < k) → test a ≡ true → (a < k → test k ≡ true) → test k ≡ true
-    by (inl same) here rest = subst (λ (j : ℕ). test j ≡ true) same here
-    by (inr later) here rest = rest later
 
 -- a number within a range is among its numbers
 pub in_range : (a n k : ℕ) → a ≤ k → k < a + n → IsAmong k (range_with_len a n)

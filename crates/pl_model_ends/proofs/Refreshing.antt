@@ -3,6 +3,11 @@ use Rattle.std.proofs.Common.{◌≡◌, ℕ, zero, suc, ◌+◌, ◌≤◌, ◌
 use Rattle.std.proofs.lemmas.List.{length-append, length-map}
 use Rattle.std.specs.List.{cons_option, enumerate_from, list_any}
 use Rattle.std.specs.Option.{option_or}
+use Rattle.std.proofs.Math.Bool.{or-true}
+use Rattle.std.proofs.lemmas.Option.{same_Some}
+use Rattle.pl_lemmas.proofs.Truth.{and_left, and_right}
+use Rattle.pl_lemmas.proofs.Numbers.{equal_numbers}
+use Rattle.pl_lemmas.proofs.Each.{IsAmong, among_each}
 use Rattle.pl_state.specs.declared.entry.Entry.{Entry}
 use Rattle.pl_state.specs.declared.pending.Pending.{Pending}
 use Rattle.pl_state.specs.declared.pending.PendingKind.{PendingKind}
@@ -23,27 +28,28 @@ use Rattle.pl_model.specs.declared.errand.Errand.{Errand}
 use Rattle.pl_model.specs.declared.fixed.Fixed.{Fixed}
 use Rattle.pl_model.specs.declared.work.Work.TheVariants.{Clear as to_clear}
 use Rattle.pl_model.specs.Run.{clears_creates, imports_of, is_refresh, rows_of}
-use Rattle.pl_model.specs.Claims.{is_row}
+use Rattle.pl_lemmas.specs.Words.{has_number, is_row}
+use Rattle.pl_lemmas.proofs.Options.{passing, row_is}
 use Rattle.pl_model.specs.Due.{counts, is_awaited, is_clear_ready, is_counted, is_imported, is_ready, is_settled, passes_limit}
 use Rattle.pl_model.specs.Entries.{new_entries, old_entries}
 use Rattle.pl_model.specs.History.{known_of}
 use Rattle.pl_model.specs.Known.{has_problem}
 use Rattle.pl_model.specs.Legal.{IsOrderly, MayHappen}
 use Rattle.pl_model.specs.Problems.{creates_urn, is_creating, pending_create}
-use Rattle.pl_model.specs.Recording.{cleared_of, has_number}
+use Rattle.pl_model.specs.Recording.{cleared_of}
 use Rattle.pl_model.specs.Rows.{pending_at, row_numbers}
 use Rattle.pl_model.specs.State.{found_by, imported_entries, is_cleared, is_found, pending_read, refreshed_entries, row_read, rows_read}
 use Rattle.pl_model.specs.Tickets.{answers_of, closed_by, reply_if, reply_to, same_op}
-use Rattle.pl_model_laws.proofs.Among.{IsAmong, any_found}
-use Rattle.pl_model_laws.proofs.Claiming.{claim_is, found_at}
-use Rattle.pl_model_laws.proofs.Growing.{answers_by, equal_numbers, or_true, run_of}
+use Rattle.pl_model_stays.proofs.Among.{any_found}
+use Rattle.pl_model_stays.proofs.Claiming.{found_at}
+use Rattle.pl_model_stays.proofs.Growing.{answers_by, run_of}
+use Rattle.pl_model_stays.proofs.Once.{equal_ops, history_of}
+use Rattle.pl_model_stays.proofs.Standing.{answers_as, closed_with}
+use Rattle.pl_model_stays.proofs.Staying.{same_op_self}
+use Rattle.pl_model_stays.proofs.Waiting.{false_or}
 use Rattle.pl_model_laws.proofs.Importing.{IsNamedImport, IsShut, begun_named, each_shut, unread}
-use Rattle.pl_model_laws.proofs.Once.{and_left, and_right, equal_ops, history_of}
-use Rattle.pl_model_laws.proofs.Standing.{answers_as, closed_with}
-use Rattle.pl_model_laws.proofs.Staying.{passes_some, same_op_self, some_same}
-use Rattle.pl_model_laws.proofs.Waiting.{false_or}
 use Rattle.pl_model_ends.proofs.Fulfilling.{event_of}
-use Rattle.pl_model_ends.proofs.Forming.{among_each, left_at}
+use Rattle.pl_model_ends.proofs.Forming.{left_at}
 use Rattle.pl_model_ends.proofs.Limiting.{begun, errand}
 use Rattle.pl_model_ends.proofs.Moving.{Moves, entries_many, parts_of}
 use Rattle.pl_model_ends.proofs.Tally.{found_turned, one_added}
@@ -135,7 +141,7 @@ named_creates : (run : Fixed) (at : ℕ) (pending : Pending) → IsNamedImport r
     → is_creating pending.kind ≡ true
 named_creates run at pending named stands =
     let pair = any_found (λ (one : List ℕ × List ℕ). is_row (pending_create run one.1) at) (imports_of run.mode) named in
-    let created : pending_create run pair.0.1 ≡ Some at = claim_is (pending_create run pair.0.1) at pair.2 in
+    let created : pending_create run pair.0.1 ≡ Some at = row_is (pending_create run pair.0.1) at pair.2 in
     by pair.0.1 (find (λ (one : ℕ × Pending). creates_urn pair.0.1 one.1) (enumerate_from 0 run.base.pending)) refl created
   where
     by : (urn : List ℕ) (o : Option (ℕ × Pending)) → find (λ (one : ℕ × Pending). creates_urn urn one.1) (enumerate_from 0 run.base.pending) ≡ o
@@ -145,10 +151,10 @@ named_creates run at pending named stands =
         let place = found_at (λ (one : ℕ × Pending). creates_urn urn one.1) 0 run.base.pending found is in
         let k : ℕ = place.0 in
         let there : found.0 ≡ 0 + k = place.2 in
-        let own : found.0 ≡ at = some_same found.0 at h in
+        let own : found.0 ≡ at = same_Some found.0 at h in
         let same : k ≡ at = omega arith in
         let entry : found.1 ≡ pending =
-        some_same found.1 pending (sym place.3 ∙ ap (λ (n : ℕ). slice_get run.base.pending n) same ∙ stands) in
+        same_Some found.1 pending (sym place.3 ∙ ap (λ (n : ℕ). slice_get run.base.pending n) same ∙ stands) in
         subst (λ (one : Pending). is_creating one.kind ≡ true) entry (and_left (is_creating found.1.kind) _ place.1)
 
 creating_counts : (pending : Pending) → is_creating pending.kind ≡ true → is_counted pending ≡ true
@@ -161,7 +167,7 @@ creating_counts pending h = by pending.kind h
 numbered_among : {X : Type 0} (n : ℕ) (xs : List X) (i : ℕ) (x : X) → slice_get xs i ≡ Some x → IsAmong (paired (n + i) x) (enumerate_from n xs)
 numbered_among n [] i x h = absurd (let e : None ≡ Some x = h in cc)
 numbered_among {X = X} n (y ∷ ys) zero x h =
-    let same : y ≡ x = some_same y x h in
+    let same : y ≡ x = same_Some y x h in
     let plain : n + 0 ≡ n = omega arith in
     inl (ap (λ (k : ℕ). paired k x) plain ∙ ap (λ (z : X). paired n z) (sym same))
 numbered_among {X = X} n (y ∷ ys) (suc i) x h =
@@ -176,7 +182,7 @@ module _ (run : Fixed) (at : ℕ) (named : IsNamedImport run at) (pending : Pend
     where
       settled : is_clear_ready (known_of run past) at ≡ true → ⊥
       settled ready =
-          let it = passes_some (is_settled (known_of run past) at) (pending_at (known_of run past) at)
+          let it = passing (is_settled (known_of run past) at) (pending_at (known_of run past) at)
           (and_right (is_refresh (known_of run past).run.mode && not (is_cleared (known_of run past) at)) _ ready) in
           let here : slice_get run.base.pending at ≡ Some it.0 =
           subst (λ (fixed : Fixed). slice_get fixed.base.pending at ≡ Some it.0) (run_of run past) it.1 in
@@ -314,7 +320,7 @@ module _ (run : Fixed) (anew : is_refresh run.mode ≡ true) where
           || is_found (option_or o (reply_if (same_op (op.Read (subject.Pending at)) (op.Read (subject.Pending at))) said))) unheard
           ∙ ap (λ (b : Bool). has_number (cleared_of past) at || is_found (reply_if b said)) (same_op_self (op.Read (subject.Pending at)))
           ∙ ap (λ (b : Bool). has_number (cleared_of past) at || b) found
-          ∙ or_true (has_number (cleared_of past) at)
+          ∙ or-true (has_number (cleared_of past) at)
 
       imported_ends : base_many run closing + 1 ≤ base_many run past
       imported_ends =

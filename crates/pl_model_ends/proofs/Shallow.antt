@@ -1,6 +1,8 @@
 -- Fields whose values are not too deep.
 use Rattle.std.proofs.Common.{◌≡◌, ℕ, ◌+◌, ◌≤◌, ◌<◌, max, Bool, true, false, not, if◌then◌else◌, bytes_eq, List, [], ◌∷◌, nat_lt, Option, Some, None, refl, arith}
 use Rattle.std.proofs.lemmas.Bool.Decides.{nat_tests}
+use Rattle.pl_lemmas.proofs.Truth.{and_right, neither_left, neither_right}
+use Rattle.pl_lemmas.proofs.Each.{Each}
 use Rattle.pl_value.specs.Depth.{most_levels}
 use Rattle.pl_value.specs.Inside.{depth, greatest_field_depth}
 use Rattle.pl_value.specs.Keys.{is_below}
@@ -10,16 +12,13 @@ use Rattle.pl_value.specs.declared.value.Value.TheVariants as value
 use Rattle.pl_path.specs.Grammar.{segments_of}
 use Rattle.pl_path.specs.Reset.{are_too_deep, is_too_deep, reset_along, reset_at, set_back}
 use Rattle.pl_path.specs.declared.segment.Segment.{Segment}
-use Rattle.pl_path.proofs.Depths.{depth-Secret, depth-Text}
+use Rattle.pl_value.proofs.Levels.{depth-Secret, depth-Text}
 use Rattle.pl_options.specs.Ignored.{reset_at_each, with_ignored}
 use Rattle.pl_state.specs.Formed.{are_shallow}
 use Rattle.pl_state.specs.declared.goal.Goal.{Goal}
 use Rattle.pl_model.specs.Run.{Pairs}
-use Rattle.pl_model.specs.Planned.{planned_outputs, put_in}
+use Rattle.pl_refresh.specs.Planned.{planned_outputs, put_in}
 use Rattle.pl_model.specs.Requests.{version_inputs}
-use Rattle.pl_model_laws.proofs.Once.{and_right}
-use Rattle.pl_model_laws.proofs.Pairs.{Each}
-use Rattle.pl_model_laws.proofs.Staying.{or_left, or_right}
 
 -- a field's value is not too deep
 abbrev pub Low : List ℕ × Value → Type 0
@@ -100,8 +99,8 @@ planned-shallow old checked one other =
 none_deep : (fields : Pairs) → are_too_deep fields ≡ false → Each Low fields
 none_deep [] h = tt
 none_deep (field ∷ fields) h = (
-  shallow (depth field.1) (or_left (is_too_deep field.1) (are_too_deep fields) h),
-  none_deep fields (or_right (is_too_deep field.1) (are_too_deep fields) h),
+  shallow (depth field.1) (neither_left (is_too_deep field.1) (are_too_deep fields) h),
+  none_deep fields (neither_right (is_too_deep field.1) (are_too_deep fields) h),
 )
   where
     shallow : (n : ℕ) → nat_lt most_levels n ≡ false → n ≤ most_levels

@@ -3,8 +3,10 @@ use Rattle.std.proofs.Common.{◌≡◌, ℕ, ◌+◌, ◌≤◌, ◌<◌, Bool,
 use Rattle.std.proofs.lemmas.List.{length-append, reverse-append}
 use Rattle.std.proofs.lemmas.List.Elements.{filter-append, filter_map-append}
 use Rattle.std.specs.List.{cons_option, enumerate_from}
-use Rattle.pl_model_laws.proofs.Among.{IsAmong, any_among}
-use Rattle.pl_model_laws.proofs.Counting.{fewer}
+use Rattle.pl_lemmas.proofs.Truth.{and_not}
+use Rattle.pl_lemmas.proofs.Each.{IsAmong}
+use Rattle.pl_model_stays.proofs.Among.{any_among}
+use Rattle.pl_model_stays.proofs.Counting.{fewer}
 
 -- what one test leaves of what another one leaves
 pub kept_both : {X : Type 0} (p q : X → Bool) (xs : List X) → length (filter p (filter q xs)) ≡ length (filter (λ x. q x && p x) xs)
@@ -76,17 +78,12 @@ pub one_added : {X : Type 0} (o : Option X) (xs : List X) → length (cons_optio
 one_added None xs = omega arith
 one_added (Some x) xs = omega arith
 
-both_so : (a b : Bool) → a ≡ true → b ≡ false → (a && not b) ≡ true
-both_so true false is none = refl
-both_so true true is none = absurd (let e : true ≡ false = none in cc)
-both_so false b is none = absurd (let e : false ≡ true = is in cc)
-
 -- a weaker test leaves one less, where one does not pass that did
 pub one_less : {X : Type 0} (p q : X → Bool) → ((x : X) → q x ≡ true → p x ≡ true) → (xs : List X) (x : X) → IsAmong x xs
     → p x ≡ true → q x ≡ false → length (filter q xs) + 1 ≤ length (filter p xs)
 one_less p q weaker xs x there is none =
     let less : length (filter q xs) < length (filter p xs) =
-    fewer p q weaker xs (any_among (λ y. p y && not (q y)) xs x there (both_so (p x) (q x) is none)) in
+    fewer p q weaker xs (any_among (λ y. p y && not (q y)) xs x there (and_not (p x) (q x) is none)) in
     omega arith
 
 -- the numbers of numbered ones aside, they are what they were

@@ -1,8 +1,13 @@
 -- The count that is limited, in parts, and how an event changes each.
-use Rattle.std.proofs.Common.{◌≡◌, ℕ, ◌+◌, ◌≤◌, ◌<◌, ◌==◌, Bool, true, false, not, ◌&&◌, ◌||◌, inl, inr, List, [], ◌∷◌, filter, length, map, reverse, Option, Some, None, refl, sym, ◌∙◌, ap, subst, arith, option_map, option_and_then}
+use Rattle.std.proofs.Common.{◌≡◌, ℕ, ◌+◌, ◌≤◌, ◌<◌, Bool, true, false, not, ◌&&◌, ◌||◌, inl, inr, List, [], ◌∷◌, filter, length, map, reverse, Option, Some, None, refl, sym, ◌∙◌, ap, subst, arith, option_map, option_and_then}
 use Rattle.std.proofs.lemmas.List.{length-append}
 use Rattle.std.proofs.lemmas.List.Elements.{filter-append}
 use Rattle.std.specs.List.{cons_option, enumerate_from, range_with_len}
+use Rattle.std.proofs.lemmas.Option.{same_Some}
+use Rattle.pl_lemmas.proofs.Truth.{and_right}
+use Rattle.pl_lemmas.proofs.Options.{some_there}
+use Rattle.pl_lemmas.proofs.Each.{IsAmong}
+use Rattle.pl_lemmas.proofs.Numbers.{number_more}
 use Rattle.pl_state.specs.declared.entry.Entry.{Entry}
 use Rattle.pl_state.specs.declared.pending.Pending.{Pending}
 use Rattle.pl_state.specs.declared.pending.PendingKind.{PendingKind}
@@ -25,19 +30,19 @@ use Rattle.pl_model.specs.History.{known_of}
 use Rattle.pl_model.specs.Known.{Known}
 use Rattle.pl_model.specs.Legal.{IsOrderly, MayHappen}
 use Rattle.pl_model.specs.Entries.{old_row}
-use Rattle.pl_model.specs.Recording.{cleared_by, cleared_of, goal_in, has_number, row_in}
+use Rattle.pl_lemmas.specs.Words.{has_number}
+use Rattle.pl_model.specs.Recording.{cleared_by, cleared_of, goal_in, row_in}
 use Rattle.pl_model.specs.Rows.{is_left}
 use Rattle.pl_model.specs.State.{base_pending, creating_entry, entries_now, is_answered, is_cleared, is_found, opened_by, opened_of, own_pending, pending_for, pending_of, pending_with, updating_entry, was_answered}
 use Rattle.pl_model.specs.Tickets.{answers_of, begun_of, closed_by, closes, is_closed, open_errands, reply_to}
-use Rattle.pl_model_laws.proofs.Among.{IsAmong}
-use Rattle.pl_model_laws.proofs.Counting.{no_more}
-use Rattle.pl_model_laws.proofs.Growing.{answers_by, run_of}
-use Rattle.pl_model_laws.proofs.KeptDue.{due-opens}
-use Rattle.pl_model_laws.proofs.Once.{history_of}
-use Rattle.pl_model_laws.proofs.Standing.{answers_as, some_there}
-use Rattle.pl_model_laws.proofs.Staying.{any_more, or_more, some_same}
+use Rattle.pl_model_stays.proofs.Counting.{no_more}
+use Rattle.pl_model_stays.proofs.Growing.{answers_by, run_of}
+use Rattle.pl_model_stays.proofs.KeptDue.{due-opens}
+use Rattle.pl_model_stays.proofs.Once.{history_of}
+use Rattle.pl_model_stays.proofs.Standing.{answers_as}
+use Rattle.pl_model_stays.proofs.Staying.{any_more, or_more}
+use Rattle.pl_model_stays.proofs.Waiting.{left_low}
 use Rattle.pl_model_laws.proofs.TakenOut.{left-before}
-use Rattle.pl_model_laws.proofs.Waiting.{either, left_low}
 use Rattle.pl_model_ends.proofs.Fulfilling.{event_of, opened_with}
 use Rattle.pl_model_ends.proofs.Tally.{kept_both, kept_mapped, kept_turned, one_kept, one_less}
 use Rattle.pl_model_ends.proofs.Numbers.{in_range}
@@ -148,10 +153,6 @@ reads_is_one : (about : Op) → reads_goal about ≡ true → 1 ≤ reads_one ab
 reads_is_one (op.Read (subject.Goal number)) h = omega arith
 reads_is_one _ h = absurd (let e : false ≡ true = h in cc)
 
-and_last : (a b : Bool) → (a && b) ≡ true → b ≡ true
-and_last true b h = h
-and_last false b h = absurd (let e : false ≡ true = h in cc)
-
 -- a begin adds one if it reads a goal's thing
 pub open_begun : (seat : ℕ) (past : List Event) (ticket lane : ℕ) (about : Op)
     → open_many (event_of seat (Begun ticket lane about) ∷ past) ≤ open_many past + reads_one about
@@ -159,7 +160,7 @@ unfolding open_many
 open_begun seat past ticket lane about =
     one_kept (not (is_closed past ticket) && reads_goal about) (record { ticket = ticket; seat = seat; lane = lane; op = about })
     (filter (is_open_counted past) (begun_of past)) (reads_one about)
-    (λ both. reads_is_one about (and_last (not (is_closed past ticket)) (reads_goal about) both))
+    (λ both. reads_is_one about (and_right (not (is_closed past ticket)) (reads_goal about) both))
 
 -- what else happens adds none
 pub open_else : (seat : ℕ) (past : List Event) (what : What) → begun_of (event_of seat what ∷ past) ≡ begun_of past
@@ -188,7 +189,7 @@ open_closed seat past what errand same there unclosed shut reads =
 uncounted : (kind : PendingKind) (o : Option Entry) (pending : Pending) → ((entry : Entry) → is_counted (record { kind = kind; entry = entry }) ≡ false)
     → pending_with kind o ≡ Some pending → is_counted pending ≡ false
 uncounted kind None pending none is = absurd (let e : None ≡ Some pending = is in cc)
-uncounted kind (Some entry) pending none is = ap is_counted (sym (some_same _ pending is)) ∙ none entry
+uncounted kind (Some entry) pending none is = ap is_counted (sym (same_Some _ pending is)) ∙ none entry
 
 -- what a creation opens counts, and nothing else that is opened does
 counted_one : (known : Known) (about : Op) (pending : Pending) → pending_for known about ≡ Some pending → is_counted pending ≡ true
@@ -237,7 +238,7 @@ module _ (run : Fixed) where
       by (Some pending) is =
           one_kept (is_own_counted past (opened_with ticket pending)) (opened_with ticket pending)
           (filter (is_own_counted past) (opened_of run past)) (opens_one about)
-          (λ both. counted_one (known_of run past) about pending is (and_last (not (was_answered past ticket)) (is_counted pending) both))
+          (λ both. counted_one (known_of run past) about pending is (and_right (not (was_answered past ticket)) (is_counted pending) both))
 
   -- what else happens adds none
   pub own_else : (seat : ℕ) (past : List Event) (what : What) → opened_by (known_of run past) what ≡ None
@@ -283,7 +284,7 @@ module _ (run : Fixed) where
   -- what is opened by a creation counts
   counts_creating : (o : Option Entry) (pending : Pending) → pending_with Creating o ≡ Some pending → is_counted pending ≡ true
   counts_creating None pending is = absurd (let e : None ≡ Some pending = is in cc)
-  counts_creating (Some entry) pending is = ap is_counted (sym (some_same _ pending is))
+  counts_creating (Some entry) pending is = ap is_counted (sym (same_Some _ pending is))
 
   opened_now : (seat : ℕ) (past : List Event) (ticket lane : ℕ) (on : Subject) (errand : Errand)
       → IsOrderly run past → is_due_on (known_of run past) (op.Create on) lane ≡ true → errand.ticket ≡ ticket
@@ -352,10 +353,6 @@ module _ (run : Fixed) where
       by None is found = absurd (let e : false ≡ true = found in cc)
       by (Some said) is found = ap is_found (answers_by o earlier about said is) ∙ found
 
-  cleared_stays : (o : Option ℕ) (numbers : List ℕ) (at : ℕ) → has_number numbers at ≡ true → has_number (cons_option o numbers) at ≡ true
-  cleared_stays None numbers at h = h
-  cleared_stays (Some n) numbers at h = either (n == at) (has_number numbers at) h
-
   -- what was cleared or imported stays so
   pub cleared-stays : (event : Event) (past : List Event) (at : ℕ) → is_cleared (known_of run past) at ≡ true
       → is_cleared (known_of run (event ∷ past)) at ≡ true
@@ -363,7 +360,7 @@ module _ (run : Fixed) where
       cleared-as (event ∷ past) at
       ∙ or_more (has_number (cleared_of past) at) (is_found (reply_to (answers_of past) (op.Read (subject.Pending at))))
       (has_number (cleared_of (event ∷ past)) at) (is_found (reply_to (answers_of (event ∷ past)) (op.Read (subject.Pending at))))
-      (λ was. cleared_stays (cleared_by event) (cleared_of past) at was)
+      (λ was. number_more (cleared_by event) (cleared_of past) at was)
       (λ was. found_stays (answers_of past) (closed_by past event.what) (op.Read (subject.Pending at)) was)
       (sym (cleared-as past at) ∙ h)
 

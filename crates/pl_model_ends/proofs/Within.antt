@@ -2,7 +2,8 @@
 use Rattle.std.proofs.Common.{◌≡◌, ℕ, ◌+◌, ◌≤◌, Bool, true, false, List, [], filter, length, refl, ap, subst, arith}
 use Rattle.pl_state.specs.declared.pending.Pending.{Pending}
 use Rattle.pl_model.specs.declared.fixed.Fixed.{Fixed}
-use Rattle.pl_model.specs.Run.{is_refresh, most_resources, rows_of}
+use Rattle.pl_model.specs.Run.{is_refresh, rows_of}
+use Rattle.pl_state.specs.Formed.{most_resources}
 use Rattle.pl_model.specs.Due.{count_of, is_counted, reads_goal}
 use Rattle.pl_model.specs.History.{known_of}
 use Rattle.pl_model.specs.State.{entries_now, pending_of}

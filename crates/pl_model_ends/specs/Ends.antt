@@ -1,11 +1,11 @@
 -- Laws on what a run comes to.
 use Rattle.std.specs.Prelude.{◌≡◌, ℕ, ◌+◌, ◌≤◌, true, false, All, List, filter, length}
-use Rattle.pl_state.specs.Formed.{is_formed_row}
+use Rattle.pl_state.specs.Formed.{is_formed_row, most_resources}
 use Rattle.pl_state.specs.declared.snapshot.Snapshot.{Snapshot}
 use Rattle.pl_events.specs.declared.event.Event.{Event}
 use Rattle.pl_model.specs.declared.fixed.Fixed.{Fixed}
 use Rattle.pl_model.specs.declared.mode.Mode.TheVariants.{Up}
-use Rattle.pl_model.specs.Run.{is_refresh, most_resources, rows_of}
+use Rattle.pl_model.specs.Run.{is_refresh, rows_of}
 use Rattle.pl_model.specs.RunData.{IsRun}
 use Rattle.pl_model.specs.Due.{IsQuiet, count_of, is_counted}
 use Rattle.pl_model.specs.Fulfilment.{Fulfils}

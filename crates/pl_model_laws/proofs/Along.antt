@@ -1,22 +1,17 @@
 -- Which rows go along with one whose chain they are in.
-use Rattle.std.proofs.Common.{◌≡◌, ◌⊎◌, ◌<◌, ◌≤◌, ℕ, Bool, true, false, not, ◌||◌, List, get_or, inl, inr, length, nat_lt, slice_get, Option, Some, None, refl, sym, ◌∙◌, ap, arith}
+use Rattle.std.proofs.Common.{◌≡◌, ◌⊎◌, ◌<◌, ◌≤◌, ℕ, true, not, ◌||◌, List, get_or, inl, inr, length, nat_lt, slice_get, Option, Some, None, refl, sym, ◌∙◌, ap, arith}
 use Rattle.std.proofs.lemmas.Bool.Decides.{nat_tests}
 use Rattle.std.proofs.lemmas.Option.{slice_get_cases}
-use Rattle.pl_state.specs.Chain.{goes_along, some_passes}
+use Rattle.std.proofs.Math.Bool.{or_comm}
+use Rattle.pl_lemmas.specs.Words.{some_passes}
+use Rattle.pl_lemmas.proofs.Options.{passing}
+use Rattle.pl_state.specs.Chain.{goes_along}
 use Rattle.pl_state.specs.declared.entry.Entry.{Entry}
 use Rattle.pl_model.specs.Run.{rows_of}
 use Rattle.pl_model.specs.Claims.{is_claimed}
 use Rattle.pl_model.specs.Known.{Known}
 use Rattle.pl_model.specs.Rows.{goes_now, is_left, is_marked, is_taken_out, is_taken_over, row_at}
-use Rattle.pl_model_laws.proofs.Leaving.{left_parts}
-use Rattle.pl_model_laws.proofs.Staying.{passes_some}
-
--- two in the other order
-or_turned : (a b : Bool) → (a || b) ≡ (b || a)
-or_turned true true = refl
-or_turned true false = refl
-or_turned false true = refl
-or_turned false false = refl
+use Rattle.pl_model_stays.proofs.Once.{left_parts}
 
 -- nothing is missing below the length of a list
 none_past : (rows : List Entry) (row : ℕ) → slice_get rows row ≡ None → row < length rows → ⊥
@@ -30,7 +25,7 @@ none_past rows row none low = by (slice_get_cases rows row).1
 -- a row that goes along is there
 pub along-there : (known : Known) (row : ℕ) → goes_now known row ≡ true → (entry : Entry) × (row_at known row ≡ Some entry)
 along-there known row h =
-    let it = passes_some (λ entry. goes_along (is_claimed known.decided) (row, record entry { doomed = is_marked known row }))
+    let it = passing (λ entry. goes_along (is_claimed known.decided) (row, record entry { doomed = is_marked known row }))
     (row_at known row) h in (it.0, it.1)
 
 -- as is a row that is left
@@ -46,12 +41,12 @@ left-row known row left = by (row_at known row) refl
 -- and nobody claims it, or it is marked
 pub along-told : (known : Known) (row : ℕ) → goes_now known row ≡ true → (not (is_claimed known.decided row) || is_marked known row) ≡ true
 along-told known row h =
-    let it = passes_some (λ entry. goes_along (is_claimed known.decided) (row, record entry { doomed = is_marked known row }))
-    (row_at known row) h in or_turned (not (is_claimed known.decided row)) (is_marked known row) ∙ it.2
+    let it = passing (λ entry. goes_along (is_claimed known.decided) (row, record entry { doomed = is_marked known row }))
+    (row_at known row) h in or_comm (not (is_claimed known.decided row)) (is_marked known row) ∙ it.2
 
 -- a row that is there goes along where that is so
 pub along-so : (known : Known) (row : ℕ) (entry : Entry) → row_at known row ≡ Some entry
     → (not (is_claimed known.decided row) || is_marked known row) ≡ true → goes_now known row ≡ true
 along-so known row entry at h =
     ap (λ o. some_passes (λ entry. goes_along (is_claimed known.decided) (row, record entry { doomed = is_marked known row })) o) at
-    ∙ or_turned (is_marked known row) (not (is_claimed known.decided row)) ∙ h
+    ∙ or_comm (is_marked known row) (not (is_claimed known.decided row)) ∙ h

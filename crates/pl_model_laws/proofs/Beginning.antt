@@ -4,6 +4,9 @@ use Rattle.std.proofs.lemmas.List.{map-append, reverse-append}
 use Rattle.std.proofs.lemmas.List.Elements.{Contains-append_right, filter-append}
 use Rattle.std.specs.List.{cons_option, list_any}
 use Rattle.std.specs.Option.{option_or}
+use Rattle.pl_lemmas.proofs.Truth.{and_left, and_right}
+use Rattle.pl_lemmas.proofs.Options.{or_none, passing}
+use Rattle.pl_lemmas.proofs.Numbers.{equal_numbers}
 use Rattle.pl_options.specs.Names.{id_text}
 use Rattle.pl_reference.specs.declared.reference.ProviderRef.{ProviderRef}
 use Rattle.pl_state.specs.declared.entry.Entry.{Entry}
@@ -30,10 +33,11 @@ use Rattle.pl_model.specs.Entries.{Result, entry_of, goal_entry, new_entries, ol
 use Rattle.pl_model.specs.State.{base_pending, entries_now, is_answered, opened_of, own_pending, pending_for, refreshed_entries, state_of, was_answered}
 use Rattle.pl_model.specs.History.{known_of}
 use Rattle.pl_model.specs.Legal.{IsOrderly, MayHappen, is_seats}
-use Rattle.pl_model_laws.proofs.Growing.{decided_as, equal_numbers, run_of}
-use Rattle.pl_model_laws.proofs.Once.{and_left, and_right, history_of}
-use Rattle.pl_model_laws.proofs.Standing.{answers_as, or_none}
-use Rattle.pl_model_laws.proofs.Staying.{any_more, errand_sent, passes_some}
+use Rattle.pl_model_stays.proofs.Growing.{decided_as, run_of}
+use Rattle.pl_model_stays.proofs.Once.{history_of}
+use Rattle.pl_model_stays.proofs.Standing.{answers_as}
+use Rattle.pl_model_stays.proofs.Staying.{any_more, errand_sent}
+use Rattle.pl_model_stays.proofs.KeptEntries.{provided_by}
 
 -- ---- lists
 
@@ -56,9 +60,6 @@ with_event known event problems = record known { history = event ∷ known.histo
 
 abbrev reference_by : Goal → List ℕ → ProviderRef
 reference_by goal id = record { urn = goal.urn; id = id }
-
-abbrev provided_by : Option ProviderRef → Entry → Entry
-provided_by provider entry = record entry { provider = provider }
 
 module _ (known : Known) (seat ticket lane : ℕ) (about : Op) (problems : List (ℕ × Problem)) where
   abbrev later : Known
@@ -178,43 +179,6 @@ module _ (run : Fixed) (event : Event) (past : List Event) (ticket lane : ℕ) (
   abbrev now : List (ℕ × Problem)
   now = (known_of run (event ∷ past)).problems
 
-  -- a begin leaves the id of each provider, and the reference to it
-  pub begun-provider : (number : ℕ) → provider_id (known_of run (event ∷ past)) number ≡ provider_id (known_of run past) number
-  begun-provider number =
-      ap (λ (known : Known). provider_id known number) known_begun
-      ∙ provider_same (known_of run past) event.seat ticket lane about now number
-
-  pub begun-reference : (number : ℕ) → reference_to (known_of run (event ∷ past)) number ≡ reference_to (known_of run past) number
-  begun-reference number =
-      ap (λ (known : Known). reference_to known number) known_begun
-      ∙ reference_same (known_of run past) event.seat ticket lane about now number
-
-  -- the entry of each goal
-  pub begun-goal-entry : (goal : Goal) (one : Decided) (result : Result)
-      → goal_entry (known_of run (event ∷ past)) goal one result ≡ goal_entry (known_of run past) goal one result
-  begun-goal-entry goal one result =
-      ap (λ (known : Known). goal_entry known goal one result) known_begun
-      ∙ goal_entry_same (known_of run past) event.seat ticket lane about now goal one result
-
-  pub begun-recorded-entry : (number : ℕ)
-      → recorded_entry (known_of run (event ∷ past)) number ≡ recorded_entry (known_of run past) number
-  begun-recorded-entry number =
-      ap (λ (known : Known). recorded_entry known number) known_begun
-      ∙ recorded_same (known_of run past) event.seat ticket lane about now number
-
-  -- and the rows as they stand, those that are left and those that are marked
-  pub begun-row : (row : ℕ) → old_row (known_of run (event ∷ past)) row ≡ old_row (known_of run past) row
-  begun-row row =
-      ap (λ (known : Known). old_row known row) known_begun ∙ row_same (known_of run past) event.seat ticket lane about now row
-
-  pub begun-left : (row : ℕ) → is_left (known_of run (event ∷ past)) row ≡ is_left (known_of run past) row
-  begun-left row =
-      ap (λ (known : Known). is_left known row) known_begun ∙ left_same (known_of run past) event.seat ticket lane about now row
-
-  pub begun-marked : (row : ℕ) → is_marked (known_of run (event ∷ past)) row ≡ is_marked (known_of run past) row
-  begun-marked row =
-      ap (λ (known : Known). is_marked known row) known_begun ∙ marked_same (known_of run past) event.seat ticket lane about now row
-
   entries_begun : (state_of run (event ∷ past)).entries ≡ (state_of run past).entries
   entries_begun = ap entries_now known_begun ∙ entries_same (known_of run past) event.seat ticket lane about now
 
@@ -263,7 +227,7 @@ module _ (run : Fixed) (ticket : ℕ) where
   -- a ticket of a seat was begun
   seats_ticket : (seat : ℕ) (past : List Event) → is_seats (known_of run past) seat ticket ≡ true → has_ticket past ticket ≡ true
   seats_ticket seat past h =
-      let found = passes_some (λ errand. errand.seat == seat) (errand_at (known_of run past).history ticket)
+      let found = passing (λ errand. errand.seat == seat) (errand_at (known_of run past).history ticket)
       (and_right (is_open (known_of run past).history ticket) _ h) in
       subst (λ (events : List Event). has_ticket events ticket ≡ true) (history_of run past)
       (errand_has (known_of run past).history ticket found.0 found.1)

@@ -1,59 +1,25 @@
 -- Where no problem stands, no event made one.
-use Rattle.std.proofs.Common.{◌≡◌, ℕ, ◌==◌, ◌-◌, ◌+◌, ◌≤◌, ◌<◌, zero, suc, Bool, true, false, not, if◌then◌else◌, List, [], ◌∷◌, ◌++◌, length, map, take, reverse, filter_map, Option, Some, None, refl, sym, ◌∙◌, ap, subst, ◌⊎◌, inl, inr, arith, eq-or-lt_of_le, option_map}
+use Rattle.std.proofs.Common.{◌≡◌, ℕ, ◌==◌, ◌-◌, ◌+◌, ◌≤◌, ◌<◌, zero, suc, Bool, true, false, not, if◌then◌else◌, List, ◌∷◌, ◌++◌, length, take, reverse, filter_map, Option, Some, None, refl, sym, ◌∙◌, ap, subst, ◌⊎◌, inl, inr, arith, eq-or-lt_of_le, []}
 use Rattle.std.proofs.Math.Seq.{take-append_seam}
 use Rattle.std.proofs.lemmas.Bool.Decides.{nat_tests}
 use Rattle.std.proofs.lemmas.List.{reverse-reverse}
 use Rattle.std.specs.List.{cons_option, range_with_len}
 use Rattle.std.specs.Option.{option_or}
+use Rattle.std.proofs.lemmas.Option.{same_Some}
+use Rattle.pl_lemmas.proofs.Lists.{append_none, map_none}
+use Rattle.pl_lemmas.proofs.Each.{Each, each_reverse}
 use Rattle.pl_events.specs.declared.event.Event.{Event}
 use Rattle.pl_events.specs.declared.event.What.{What}
 use Rattle.pl_decide.specs.declared.problem.Problem.{Problem}
+use Rattle.pl_lemmas.specs.Words.{first_some, numbered, option_list}
 use Rattle.pl_model.specs.declared.decided.Decided.{Decided}
 use Rattle.pl_model.specs.declared.fixed.Fixed.{Fixed}
-use Rattle.pl_model.specs.Tickets.{answers_of, closed_by}
-use Rattle.pl_model.specs.Claims.{first_some, numbered}
-use Rattle.pl_model.specs.Decisions.{decided_of}
 use Rattle.pl_model.specs.History.{asked_after, goals_after, known_of}
 use Rattle.pl_model.specs.Known.{Known, decided_goal, has_problem, known_by}
 use Rattle.pl_model.specs.Problems.{at_position, decision_problems, end_problems, ends_well, made_problems, newly_decided, own_problem, problems_at, provider_problems, request_problem}
-use Rattle.pl_state.specs.References.{option_list}
-use Rattle.pl_model_laws.proofs.Growing.{Grown, answers_by, decided_as, decided_grown, grown_goals, length_added, numbered_below}
-use Rattle.pl_model_laws.proofs.Pairs.{Each, each-reverse}
-use Rattle.pl_model_laws.proofs.Staying.{some_same}
+use Rattle.pl_model_stays.proofs.Growing.{Grown, length_added, numbered_below, decided-grown}
 
 -- ---- lists that are empty
-
--- two lists in a row are empty only if each is
-pub append_none : {X : Type 0} (xs ys : List X) → xs ++ ys ≡ [] → (xs ≡ []) × (ys ≡ [])
-append_none [] ys h = (refl, h)
-append_none {X = X} (x ∷ xs) ys h =
-    let none : List X = [] in
-    let e : x ∷ (xs ++ ys) ≡ none = h in
-    absurd cc
-
--- a mapped list is empty only if the list is
-pub map_none : {X Y : Type 0} (f : X → Y) (xs : List X) → map f xs ≡ [] → xs ≡ []
-map_none f [] h = refl
-map_none {X = X} {Y = Y} f (x ∷ xs) h =
-    let none : List Y = [] in
-    let e : f x ∷ map f xs ≡ none = h in
-    absurd cc
-
--- what is listed of something that may be there is empty only if it is not there
-pub option_list_none : {X : Type 0} (o : Option X) → option_list o ≡ [] → o ≡ None
-option_list_none None h = refl
-option_list_none {X = X} (Some x) h =
-    let none : List X = [] in
-    let e : x ∷ none ≡ none = h in
-    absurd cc
-
--- what is made of something that may be there is missing only if that is
-pub option_map_none : {X Y : Type 0} (f : X → Y) (o : Option X) → option_map f o ≡ None → o ≡ None
-option_map_none f None h = refl
-option_map_none {Y = Y} f (Some x) h =
-    let none : Option Y = None in
-    let e : Some (f x) ≡ none = h in
-    absurd cc
 
 -- where nothing is found for any of a list, nothing is found for each
 filter_none : {X Y : Type 0} (found : X → Option Y) (xs : List X) → filter_map found xs ≡ [] → Each (λ x. found x ≡ None) xs
@@ -109,7 +75,7 @@ numbered_among {X = X} P (y ∷ added) older n x each h low =
   where
     by : (b : Bool) → (if b then Some y else numbered (added ++ older) n) ≡ Some x
         → (numbered (added ++ older) n ≡ Some x → P x) → P x
-    by true h rest = subst P (some_same y x h) each.0
+    by true h rest = subst P (same_Some y x h) each.0
     by false h rest = rest h
 
 module _ {X : Type 0} (P : X → Type 0) where
@@ -121,7 +87,7 @@ module _ {X : Type 0} (P : X → Type 0) where
       numbered_among P added older n x
       (subst (λ (xs : List X). Each P xs) (added_taken added older)
       (subst (λ (xs : List X). Each P xs) (reverse-reverse (take (length (added ++ older) - length older) (added ++ older)))
-      (each-reverse P (reverse (take (length (added ++ older) - length older) (added ++ older))) each)))
+      (each_reverse P (reverse (take (length (added ++ older) - length older) (added ++ older))) each)))
       h low
 
   -- what each of the new ones has, one of a new number has
@@ -137,19 +103,6 @@ module _ {X : Type 0} (P : X → Type 0) where
 pub none-decided : (run : Fixed) (n : ℕ) (one : Decided) → decided_goal (known_of run []) n ≡ Some one → ⊥
 unfolding known_of
 none-decided run n one h = let none : Option Decided = None in let e : none ≡ Some one = h in cc
-
--- an event adds to what is decided
-pub decided-grown : (run : Fixed) (event : Event) (past : List Event)
-    → Grown (known_of run past).decided (known_of run (event ∷ past)).decided
-unfolding known_of
-decided-grown run event past =
-    let known : Known = known_of run past in
-    subst (λ (ones : List Decided). Grown ones
-    (decided_of known.run (cons_option (closed_by known.history event.what) (answers_of known.history)) (goals_after known event.what)))
-    (sym (decided_as run past))
-    (decided_grown known.run (answers_of known.history) (cons_option (closed_by known.history event.what) (answers_of known.history))
-    known.goals (goals_after known event.what) (answers_by (closed_by known.history event.what) (answers_of known.history))
-    (grown_goals known event.what))
 
 -- where nothing is found for what an event decided, nothing is found for one that it decided
 pub newly-none : {Y : Type 0} (found : Decided → Option Y) (run : Fixed) (event : Event) (past : List Event) (n : ℕ) (one : Decided)
@@ -221,10 +174,6 @@ module _ (run : Fixed) (event : Event) (past : List Event) (calm : has_problem (
   pub no-end : (if ends_well before after event.what then end_problems after else []) ≡ []
   no-end = (append_none (made_problems before after event.what) _ no-problem).1
 
-  -- none by a request
-  pub no-request : request_problem before event.what ≡ None
-  no-request = option_list_none (request_problem before event.what) (append_none (option_list (request_problem before event.what)) _ no-made).0
-
   -- none behind those of a request
   behind_request : decision_problems before after ++ (option_list (own_problem before event.what) ++ provider_problems before after) ≡ []
   behind_request = (append_none (option_list (request_problem before event.what)) _ no-made).1
@@ -236,10 +185,6 @@ module _ (run : Fixed) (event : Event) (past : List Event) (calm : has_problem (
   -- none behind those of a refusal
   behind_decision : option_list (own_problem before event.what) ++ provider_problems before after ≡ []
   behind_decision = (append_none (decision_problems before after) _ behind_request).1
-
-  -- none of itself
-  pub no-own : own_problem before event.what ≡ None
-  no-own = option_list_none (own_problem before event.what) (append_none (option_list (own_problem before event.what)) _ behind_decision).0
 
   -- none by a row that lacks its provider
   pub no-provider : provider_problems before after ≡ []

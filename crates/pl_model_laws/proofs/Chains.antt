@@ -1,26 +1,29 @@
 -- The chain of a row: which rows it has, and who may claim them.
-use Rattle.std.proofs.Common.{◌≡◌, ℕ, zero, suc, ◌<◌, ◌≤◌, ◌==◌, Bool, true, false, ◌||◌, if◌then◌else◌, List, [], ◌∷◌, ◌++◌, length, nat_lt, Option, Some, None, refl, sym, ◌∙◌, ap, subst, inl, inr, ◌⊎◌, arith, eq-or-lt_of_le}
+use Rattle.std.proofs.Common.{◌≡◌, ℕ, zero, suc, ◌<◌, ◌≤◌, ◌==◌, Bool, true, false, ◌||◌, if◌then◌else◌, List, [], ◌∷◌, ◌++◌, length, Option, Some, None, refl, sym, ◌∙◌, ap, subst, inl, inr, ◌⊎◌, arith, eq-or-lt_of_le}
 use Rattle.std.proofs.lemmas.Bool.{cases_lt}
-use Rattle.std.proofs.lemmas.Bool.Decides.{nat_tests}
 use Rattle.std.proofs.lemmas.List.Folds.{list_any-append}
 use Rattle.std.specs.List.{list_any}
+use Rattle.std.proofs.Math.Bool.{or-true}
+use Rattle.std.proofs.lemmas.Option.{same_Some}
+use Rattle.pl_lemmas.proofs.Numbers.{same_number, equal_numbers}
 use Rattle.pl_state.specs.Chain.{chain_among, chain_of, chain_with, joins, refers_to}
 use Rattle.pl_state.specs.declared.entry.Entry.{Entry}
 use Rattle.pl_events.specs.declared.event.Event.{Event}
+use Rattle.pl_decide.specs.Limited.{is_delete_first}
 use Rattle.pl_model.specs.declared.decided.Decided.{Decided}
 use Rattle.pl_model.specs.declared.fixed.Fixed.{Fixed}
 use Rattle.pl_model.specs.Run.{rows_of}
-use Rattle.pl_decide.specs.Limited.{is_delete_first}
-use Rattle.pl_model.specs.Claims.{chain_of_claim, chain_of_goal, is_chained, is_row, numbered}
+use Rattle.pl_lemmas.specs.Words.{has_number, is_row, numbered}
+use Rattle.pl_lemmas.proofs.Lists.{numbered_passes}
+use Rattle.pl_lemmas.proofs.Options.{row_is}
+use Rattle.pl_model.specs.Claims.{chain_of_claim, chain_of_goal, is_chained}
 use Rattle.pl_model.specs.History.{known_of}
 use Rattle.pl_model.specs.Known.{decided_goal}
-use Rattle.pl_model.specs.Recording.{has_number}
+use Rattle.pl_model_stays.proofs.Claiming.{claims-allowed, numbered_behind, was-made}
+use Rattle.pl_model_stays.proofs.Growing.{Grown}
+use Rattle.pl_model_stays.proofs.Waiting.{refers_above}
 use Rattle.pl_model_laws.specs.Closure.{IsHandedOn}
-use Rattle.pl_model_laws.proofs.Claiming.{claim_is, claims-allowed, numbered_behind, numbered_passes, was-made}
-use Rattle.pl_model_laws.proofs.Growing.{Grown, equal_numbers, or_true, same_number}
-use Rattle.pl_model_laws.proofs.Once.{and_left}
 use Rattle.pl_model_laws.proofs.Removing.{grown_behind}
-use Rattle.pl_model_laws.proofs.Staying.{some_same}
 
 -- ---- lists of numbers
 
@@ -33,7 +36,7 @@ has_passes test (first ∷ others) n has passes = by (first == n) refl has (has_
         → (has_number others n ≡ true → test n ≡ true → list_any test others ≡ true)
         → (test first || list_any test others) ≡ true
     by true is has rest = ap (λ (b : Bool). b || list_any test others) (ap test (equal_numbers first n is) ∙ passes)
-    by false is has rest = ap (λ (b : Bool). test first || b) (rest has passes) ∙ or_true (test first)
+    by false is has rest = ap (λ (b : Bool). test first || b) (rest has passes) ∙ or-true (test first)
 
 -- what some pass, one of the numbers passes
 passing_has : (test : ℕ → Bool) (numbers : List ℕ) → list_any test numbers ≡ true → (n : ℕ) × (has_number numbers n ≡ true) × (test n ≡ true)
@@ -46,7 +49,7 @@ passing_has test (first ∷ others) h = by (test first) refl h (passing_has test
     by true is h rest = (first, ap (λ (b : Bool). b || has_number others first) (same_number first), is)
     by false is h rest =
         let found = rest h in
-        (found.0, ap (λ (b : Bool). (first == found.0) || b) found.1 ∙ or_true (first == found.0), found.2)
+        (found.0, ap (λ (b : Bool). (first == found.0) || b) found.1 ∙ or-true (first == found.0), found.2)
 
 -- a number that is put at the end is there, or it was there before
 last_or_before : (numbers : List ℕ) (last n : ℕ) → has_number (numbers ++ last ∷ []) n ≡ true → (last ≡ n) ⊎ (has_number numbers n ≡ true)
@@ -59,12 +62,6 @@ last_or_before numbers last n h =
     by false false is h = absurd (let e : false ≡ true = h in cc)
 
 -- ---- chains
-
--- a row refers to one before it
-refers_later : (rows : List Entry) (later earlier : ℕ) → refers_to rows later earlier ≡ true → earlier < later
-refers_later rows later earlier h =
-    let less : nat_lt earlier later ≡ true = and_left (nat_lt earlier later) _ h in
-    grind (arith, nat_tests)
 
 module _ (rows : List Entry) (at : ℕ) where
   -- with a row more a chain has what it had
@@ -83,7 +80,7 @@ module _ (rows : List Entry) (at : ℕ) where
       ap (λ (b : Bool). has_number (if b then chain ++ place ∷ [] else chain) place) h
       ∙ list_any-append (λ (other : ℕ). other == place) chain (place ∷ [])
       ∙ ap (λ (b : Bool). has_number chain place || (b || false)) (same_number place)
-      ∙ or_true (has_number chain place)
+      ∙ or-true (has_number chain place)
 
   -- and nothing else
   with_parts : (chain : List ℕ) (place n : ℕ) → has_number (chain_with rows at chain place) n ≡ true
@@ -120,7 +117,7 @@ module _ (rows : List Entry) (at : ℕ) where
           → has_number (chain_to count) earlier ≡ true
       last (inl end) =
           let same : count ≡ earlier = end.0 in
-          let less : earlier < later = refers_later rows later earlier refers in
+          let less : earlier < later = refers_above rows later earlier refers in
           absurd (omega arith)
       last (inr has) = has
 
@@ -135,7 +132,7 @@ module _ (rows : List Entry) (at : ℕ) where
           (subst (λ (n : ℕ). refers_to rows later n ≡ true) same refers)
       joining (inr has) =
           ap (λ (b : Bool). refers_to rows later at || b) (has_passes (refers_to rows later) (chain_to count) earlier has refers)
-          ∙ or_true (refers_to rows later at)
+          ∙ or-true (refers_to rows later at)
 
       by : (later ≡ count) ⊎ (later < count) → IsIn (chain_to count) earlier
           → (later < count → IsIn (chain_to count) earlier → has_number (chain_to count) later ≡ true)
@@ -152,7 +149,7 @@ module _ (rows : List Entry) (at : ℕ) where
     where
       behind : (b : Bool) → refers_to rows count at ≡ b → (b || list_any (refers_to rows count) (chain_to count)) ≡ true
           → ((k : ℕ) → has_number (chain_to count) k ≡ true → (at < k) × (k < count)) → at < count
-      behind true is h rest = refers_later rows count at is
+      behind true is h rest = refers_above rows count at is
       behind false is h rest =
           let found = passing_has (refers_to rows count) (chain_to count) h in
           let more : (at < found.0) × (found.0 < count) = rest found.0 found.1 in
@@ -222,7 +219,7 @@ chain-of-claim run one row h = by (is_delete_first one.decision) one.claim h
 not_own : (run : Fixed) (one : Decided) (row : ℕ) → has_number (chain_of_goal run one) row ≡ true → is_row one.claim row ≡ true → ⊥
 not_own run one row chained claims =
     let parts = chain-of-claim run one row chained in
-    let same : parts.1 ≡ row = some_same parts.1 row (sym parts.2 ∙ claim_is one.claim row claims) in
+    let same : parts.1 ≡ row = same_Some parts.1 row (sym parts.2 ∙ row_is one.claim row claims) in
     let within : (parts.1 < row) × (row < length (rows_of run)) = chain-within (rows_of run) parts.1 row parts.3 in
     let less : parts.1 < row = within.0 in
     absurd (omega arith)
@@ -236,7 +233,7 @@ chained-kept run history n m row one before decided chained other claims = by (c
     later : (n ≡ m) ⊎ (n < m) → ⊥
     later (inl same) =
         let ones : one ≡ before =
-        some_same one before (sym decided ∙ ap (λ (k : ℕ). decided_goal (known_of run history) k) same ∙ other) in
+        same_Some one before (sym decided ∙ ap (λ (k : ℕ). decided_goal (known_of run history) k) same ∙ other) in
         not_own run one row chained (ap (λ (it : Decided). is_row it.claim row) ones ∙ claims)
     later (inr less) =
         let made = was-made run history m before other in

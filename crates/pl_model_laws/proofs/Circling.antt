@@ -3,7 +3,14 @@ use Rattle.std.proofs.Common.{◌≡◌, ℕ, zero, suc, ◌+◌, ◌<◌, ◌�
 use Rattle.std.proofs.lemmas.Bool.Decides.{nat_tests}
 use Rattle.std.proofs.lemmas.Option.{slice_get_within}
 use Rattle.std.specs.List.{list_all, list_any}
-use Rattle.pl_state.specs.Chain.{chain_of, provider_row_of, refers_to, some_passes}
+use Rattle.std.proofs.Math.Bool.{or-true}
+use Rattle.std.proofs.lemmas.Bool.{or_right}
+use Rattle.pl_lemmas.proofs.Truth.{and_left, and_right}
+use Rattle.pl_lemmas.proofs.Options.{some_there, row_is}
+use Rattle.pl_lemmas.proofs.Numbers.{same_number, numbered_there}
+use Rattle.pl_lemmas.specs.Words.{has_number, is_row, none_or, numbered, only_if, some_passes}
+use Rattle.pl_lemmas.proofs.Lists.{numbered_passes}
+use Rattle.pl_state.specs.Chain.{chain_of, provider_row_of, refers_to}
 use Rattle.pl_state.specs.Kinds.{is_provided, is_provider_goal, is_reading_goal}
 use Rattle.pl_state.specs.declared.entry.Entry.{Entry}
 use Rattle.pl_state.specs.declared.goal.Goal.{Goal}
@@ -17,36 +24,36 @@ use Rattle.pl_events.specs.declared.operation.Subject.TheVariants as subject
 use Rattle.pl_events.specs.declared.reply.Reply.{Reply}
 use Rattle.pl_decide.specs.declared.decision.Decision.{Decision}
 use Rattle.pl_decide.specs.declared.decision.Decision.TheVariants as decision
+use Rattle.pl_decide.specs.Limited.{is_create_first, is_delete_first, is_refused}
+use Rattle.pl_events.specs.Replies.{tells_success}
 use Rattle.pl_model.specs.declared.decided.Decided.{Decided}
 use Rattle.pl_model.specs.declared.errand.Closed.{Closed}
 use Rattle.pl_model.specs.declared.fixed.Fixed.{Fixed}
 use Rattle.pl_model.specs.Run.{Pairs, is_destroy, is_preview, is_refresh, rows_of}
 use Rattle.pl_model.specs.Asked.{call_of}
-use Rattle.pl_decide.specs.Limited.{is_create_first, is_delete_first, is_refused}
-use Rattle.pl_model.specs.Claims.{chain_of_claim, chain_of_goal, claimer_of, is_claimed, is_row, numbered}
+use Rattle.pl_model.specs.Claims.{chain_of_claim, chain_of_goal, claimer_of, is_claimed}
 use Rattle.pl_model.specs.Decisions.{Turn, change_at, claim_at, decided_by, decided_of, checked_at, checked_in, decided_at, diff_at, diffed_in, is_provider_unknown, needs_check, number_at, turn_in, wants_diff}
-use Rattle.pl_model.specs.Due.{asks_check, asks_config, asks_diff, at_turn, for_decided, is_asked, is_carried_out, is_drop_ready, is_keep_ready, is_placed, is_reading, is_removable, is_wanted_op, keeps_goal, op_of_goal, operations_of, provider_recorded, provider_stands, references_recorded, sends_goal, source_of_op, urn_is_free, way_is_free, none_or}
+use Rattle.pl_model.specs.Due.{asks_check, asks_config, asks_diff, at_turn, for_decided, is_asked, is_carried_out, is_drop_ready, is_keep_ready, is_placed, is_reading, is_removable, is_wanted_op, keeps_goal, op_of_goal, operations_of, provider_recorded, provider_stands, references_recorded, sends_goal, source_of_op, urn_is_free, way_is_free}
 use Rattle.pl_model.specs.History.{known_of}
 use Rattle.pl_model.specs.Known.{Known, all_recorded, decided_goal, goal_at, host_ended, is_over, is_recorded, next_turn}
 use Rattle.pl_model.specs.Problems.{lacks_provider}
-use Rattle.pl_model.specs.Recording.{goal_of_op, has_number, only_if, removed_of}
+use Rattle.pl_model.specs.Recording.{goal_of_op, removed_of}
 use Rattle.pl_model.specs.Rows.{has_dependents, is_deleted_first, is_doomed, is_left, is_marked, is_sent, is_taken_out, is_taken_over, is_target, row_at, source_of_goal, source_of_provider, source_of_row, stands_beside, takes_along, was_removed}
 use Rattle.pl_model.specs.Tickets.{reply_to, same_op, was_begun, was_configured}
-use Rattle.pl_model_laws.specs.Laws.{is_configure}
-use Rattle.pl_events.specs.Replies.{tells_success}
+use Rattle.pl_model_stays.specs.Laws.{is_configure}
+use Rattle.pl_model_stays.proofs.Claiming.{claims-allowed, passing_number, was-made}
+use Rattle.pl_model_stays.proofs.Growing.{decided_as, numbered_below, run_of}
+use Rattle.pl_model_stays.proofs.Once.{history_of, left_parts, both}
+use Rattle.pl_model_stays.proofs.Standing.{answers_as}
+use Rattle.pl_model_stays.proofs.Staying.{same_op_self}
+use Rattle.pl_model_stays.proofs.Waiting.{above, all_numbers, at_last, carried, check_listed, checked_well, choose_some, claimed_by, config_begun, delete_listed, diff_listed, diff_provided, diffed_well, doomed_left, exact, false_or, inputs_well, kind_asked, kind_goal, kind_listed, kind_source, last_or, left_low, mapped_some, refers_above, sends_listed, true_or, waiting}
+use Rattle.pl_model_stays.proofs.Ranges.{none_in_range, all_in_range}
 use Rattle.pl_model_laws.specs.Quiet.{IsAllDone}
 use Rattle.pl_model_laws.proofs.Along.{along-so, left-row}
 use Rattle.pl_model_laws.proofs.Chains.{chain-closed, chain-of-claim, chained-kept}
-use Rattle.pl_model_laws.proofs.Claiming.{claims-allowed, passing_number, was-made}
-use Rattle.pl_model_laws.proofs.Growing.{decided_as, numbered_below, or_true, run_of, same_number}
-use Rattle.pl_model_laws.proofs.Leaving.{claim-gone, claimer_is, known-apart, left_made, left_parts}
-use Rattle.pl_model_laws.proofs.Once.{and_left, and_right, history_of}
+use Rattle.pl_model_laws.proofs.Leaving.{claim-gone, claimer_is, known-apart, left_made}
 use Rattle.pl_model_laws.proofs.Removing.{later-now, never-marked}
-use Rattle.pl_model_laws.proofs.Standing.{answers_as}
-use Rattle.pl_model_laws.proofs.Staying.{same_op_self}
-use Rattle.pl_model_laws.proofs.Waiting.{above, all_in_range, all_numbers, any_numbered, at_last, carried, check_listed, checked_well, choose_some, claimed_by, config_begun, delete_listed, diff_listed, diff_provided, diffed_well, doomed_left, either, exact, false_or, inputs_well, kind_asked, kind_goal, kind_listed, kind_source, last_or, left_low, mapped_some, none_in_range, numbered_at, refers_above, sends_listed, some_named, true_or, waiting}
-use Rattle.pl_model_laws.proofs.Founding.{row_is, some_at}
-use Rattle.pl_model_laws.proofs.Working.{both}
+use Rattle.pl_model_laws.proofs.Founding.{some_at}
 
 -- ---- the goals, one after another
 
@@ -190,7 +197,7 @@ module _ (run : Fixed) (history : List Event) (still : IsStill run history) wher
     where
       least : (k : ℕ) → (m : ℕ) → m < k → k ≤ n → m < length known.decided
       least k m low within =
-          let there = some_named (decided_goal known m) (still.decided m (below m (omega arith))) in
+          let there = some_there (decided_goal known m) (still.decided m (below m (omega arith))) in
           numbered_below known.decided m there.0 there.1
 
       enough : n ≤ length known.decided
@@ -292,14 +299,14 @@ module _ (run : Fixed) (history : List Event) (still : IsStill run history) wher
     foreseen_one n goal stands below =
         let one = decided_there n goal stands below in
         let free : (is_preview known.run.mode || urn_is_free known goal one.0) ≡ true = rw preview refl in
-        let provider : provider_stands known n goal ≡ true = rw preview (rw (or_true (not (is_provider_goal goal))) refl) in
+        let provider : provider_stands known n goal ≡ true = rw preview (rw (or-true (not (is_provider_goal goal))) refl) in
         recorded_so n goal one.0 stands one.1 below free provider (λ about missing needs. foreseen_way n goal one.0 about needs)
 
     -- so all of the first goals are
     foreseen_below : (n : ℕ) → n ≤ length known.goals → (m : ℕ) → m < n → is_recorded known m ≡ true
     foreseen_below zero within m low = absurd (omega arith)
     foreseen_below (suc n) within m low =
-        let goal = numbered_at known.goals n (omega arith) in
+        let goal = numbered_there known.goals n (omega arith) in
         let before = foreseen_below n (omega arith) in
         at_last (λ k. is_recorded known k ≡ true) n m low before (foreseen_one n goal.0 goal.1 before)
 
@@ -421,7 +428,7 @@ module _ (run : Fixed) (history : List Event) (still : IsStill run history) wher
       takes_so row (inr chained) left =
           let there : has_number (chain_of_goal known.run one) row ≡ true =
           ap (λ (fixed : Fixed). has_number (chain_of_goal fixed one) row) (run_of run history) ∙ chained in
-          both (is_delete_first one.decision) _ first (either (is_row one.claim row) _
+          both (is_delete_first one.decision) _ first (or_right (is_row one.claim row) _
           (both (has_number (chain_of_goal known.run one) row) _ there (along-so known row at.0 at.1 (by (is_claimed known.decided row) refl))))
         where
           at : (entry : Entry) × (row_at known row ≡ Some entry)
@@ -429,14 +436,14 @@ module _ (run : Fixed) (history : List Event) (still : IsStill run history) wher
 
           by : (b : Bool) → is_claimed known.decided row ≡ b → (not (is_claimed known.decided row) || is_marked known row) ≡ true
           by false is = rw is refl
-          by true is = either (not (is_claimed known.decided row)) (is_marked known row) (marked_so row chained left is)
+          by true is = or_right (not (is_claimed known.decided row)) (is_marked known row) (marked_so row chained left is)
 
       doomed_so : (row : ℕ) → IsTaken one row → is_left known row ≡ true → is_doomed known row ≡ true
       doomed_so row taken left =
           let reads : is_refresh known.run.mode ≡ false = ap (λ (fixed : Fixed). is_refresh fixed.mode) (run_of run history) ∙ other in
           let up : is_destroy known.run.mode ≡ false = ap (λ (fixed : Fixed). is_destroy fixed.mode) (run_of run history) ∙ hosted n goal stands in
-          let any : list_any (takes_along known row) known.decided ≡ true = any_numbered (takes_along known row) known.decided n one decided (takes_so row taken left) in
-          rw left (rw reads (rw up (rw any (or_true (is_over known)))))
+          let any : list_any (takes_along known row) known.decided ≡ true = numbered_passes (takes_along known row) known.decided n one decided (takes_so row taken left) in
+          rw left (rw reads (rw up (rw any (or-true (is_over known)))))
 
       chain_is : (own : ℕ) → one.claim ≡ Some own → chain_of_goal run one ≡ chain_of (rows_of run) own
       chain_is own claim =
@@ -532,7 +539,7 @@ module _ (run : Fixed) (history : List Event) (still : IsStill run history) wher
               subst (λ (fixed : Fixed). list_all (λ row. not (is_left known row)) (chain_of_goal fixed one) ≡ true) (sym (run_of run history))
               (all_numbers (λ row. not (is_left known row)) (chain_of_goal run one)
               (λ row chained. ap (λ (b : Bool). not b) (chain_gone n goal one stands decided is below row chained))) in
-              either (not (is_delete_first one.decision)) _ (both (none_or (was_removed known) one.claim) _ (claim_gone_so missing is) chain)
+              or_right (not (is_delete_first one.decision)) _ (both (none_or (was_removed known) one.claim) _ (claim_gone_so missing is) chain)
 
       -- a provider is configured, as its inputs were checked
       provider_so : provider_stands known n goal ≡ true
@@ -544,13 +551,13 @@ module _ (run : Fixed) (history : List Event) (still : IsStill run history) wher
               let had : was_configured known.history (source.Goal n) ≡ true =
               subst (λ (events : List Event). was_configured events (source.Goal n) ≡ true) (sym (history_of run history))
               (configured n (config_begun run history n goal one stands decided is) (goal_below n goal stands)) in
-              rw is (rw had (or_true (is_preview known.run.mode)))
+              rw is (rw had (or-true (is_preview known.run.mode)))
 
       -- so it is recorded
       done_so : is_recorded known n ≡ true
       done_so =
           let free : urn_is_free known goal one ≡ true = urn_ready n goal one stands decided below.recorded below.gone in
-          recorded_so n goal one stands decided below.recorded (either (is_preview known.run.mode) _ free) provider_so (λ about missing needs. way_so missing)
+          recorded_so n goal one stands decided below.recorded (or_right (is_preview known.run.mode) _ free) provider_so (λ about missing needs. way_so missing)
 
     -- ---- all of them
 
@@ -572,7 +579,7 @@ module _ (run : Fixed) (history : List Event) (still : IsStill run history) wher
     below_all : (n : ℕ) → n ≤ length known.goals → Below n
     below_all zero low = record { recorded = λ m below. absurd (omega arith); gone = λ m one row below decided chained. absurd (omega arith) }
     below_all (suc n) low =
-        let goal = numbered_at known.goals n (omega arith) in below_next n goal.0 goal.1 (below_all n (omega arith))
+        let goal = numbered_there known.goals n (omega arith) in below_next n goal.0 goal.1 (below_all n (omega arith))
 
     pub everything_recorded : all_recorded known ≡ true
     everything_recorded =

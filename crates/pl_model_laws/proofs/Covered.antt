@@ -1,5 +1,7 @@
 -- The state with an operation begun covers it.
 use Rattle.std.proofs.Common.{◌≡◌, ℕ, true, false, not, ◌&&◌, List, [], ◌∷◌, ◌++◌, option_and_then, option_map, slice_get, Option, Some, None, refl, sym, ◌∙◌, ap, subst}
+use Rattle.pl_lemmas.proofs.Truth.{and_left, and_right}
+use Rattle.pl_lemmas.proofs.Options.{passing}
 use Rattle.pl_sound.specs.Sound.{IsSound}
 use Rattle.pl_state.specs.declared.entry.Entry.{Entry}
 use Rattle.pl_state.specs.declared.goal.Goal.{Goal}
@@ -26,14 +28,12 @@ use Rattle.pl_model.specs.Rows.{goes_with, is_deletable, is_sent, row_at}
 use Rattle.pl_model.specs.Saves.{is_covered}
 use Rattle.pl_model.specs.State.{pending_for, pending_with, state_of, updating_result}
 use Rattle.pl_model.specs.RunData.{NameProviders}
+use Rattle.pl_model_stays.proofs.Growing.{run_of}
+use Rattle.pl_model_stays.proofs.Recorded.{asked_on, due_sent}
 use Rattle.pl_model_laws.proofs.Beginning.{begun-entries, begun-pending}
 use Rattle.pl_model_laws.proofs.Covering.{deletion-found, references-found, row-found}
-use Rattle.pl_model_laws.proofs.Growing.{run_of}
 use Rattle.pl_model_laws.proofs.Keeping.{entries_merged}
-use Rattle.pl_model_laws.proofs.Once.{and_left, and_right}
-use Rattle.pl_model_laws.proofs.Recorded.{asked_on, due_sent}
 use Rattle.pl_model_laws.proofs.Sounding.{sound-apart}
-use Rattle.pl_model_laws.proofs.Staying.{passes_some}
 
 abbrev pending_of_kind : PendingKind → Entry → Pending
 pending_of_kind kind entry = record { kind = kind; entry = entry }
@@ -94,7 +94,7 @@ module _ (run : Fixed) (event : Event) (past : List Event) (ticket lane : ℕ)
       let about : Op = op.Delete (subject.Row place) in
       let ready : is_delete_ready before place ≡ true =
       asked_on before 0 about lane (and_left (is_ready_on before about lane) (not (passes_limit before (to_send about))) (due_of about says)) in
-      let row = passes_some (λ entry. is_deletable entry && not entry.pending_replacement) (row_at before place)
+      let row = passing (λ entry. is_deletable entry && not entry.pending_replacement) (row_at before place)
       (and_left _ (not (goes_with before place)) (and_right (is_removable before place) (is_sent before place) ready)) in
       let here : slice_get (rows_of run) place ≡ Some row.0 =
       ap (λ (fixed : Fixed). slice_get (rows_of fixed) place) (sym (run_of run past)) ∙ row.1 in

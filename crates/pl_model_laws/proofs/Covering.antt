@@ -7,6 +7,11 @@ use Rattle.std.proofs.lemmas.List.Elements.{filter_map-append}
 use Rattle.std.proofs.lemmas.List.Folds.{list_any-append}
 use Rattle.std.proofs.lemmas.Option.{slice_get_within}
 use Rattle.std.specs.List.{cons_option, list_all, list_any, range_with_len}
+use Rattle.pl_lemmas.proofs.Truth.{and_left, and_right}
+use Rattle.pl_lemmas.proofs.Options.{some_there, passing}
+use Rattle.pl_lemmas.proofs.Numbers.{same_number, equal_numbers}
+use Rattle.pl_lemmas.proofs.Lists.{all_weaker}
+use Rattle.pl_lemmas.proofs.Each.{Each, Pairwise}
 use Rattle.pl_state.specs.Chain.{refers_to}
 use Rattle.pl_state.specs.References.{finds_references, further_urns, has_urn, is_provider, optional_refs}
 use Rattle.pl_sound.specs.Sound.{IsSound, is_met}
@@ -18,28 +23,27 @@ use Rattle.pl_model.specs.declared.fixed.Fixed.{Fixed}
 use Rattle.pl_model.specs.Run.{HasNames, is_preview, is_refresh, rows_of}
 use Rattle.pl_model.specs.Claims.{goal_number}
 use Rattle.pl_model.specs.Covers.{IsWithout}
-use Rattle.pl_model.specs.Due.{is_delete_ready, is_recorded_urn, is_removable, none_or, references_recorded}
+use Rattle.pl_lemmas.specs.Words.{none_or}
+use Rattle.pl_model.specs.Due.{is_delete_ready, is_recorded_urn, is_removable, references_recorded}
 use Rattle.pl_model.specs.Entries.{new_entries, old_entries, old_row, recorded_entry, reference_to, row_now}
 use Rattle.pl_model.specs.History.{known_of}
 use Rattle.pl_model.specs.Known.{Known, goal_at, is_recorded, provider_id}
 use Rattle.pl_model.specs.Legal.{IsOrderly}
 use Rattle.pl_model.specs.Recording.{recorded_of}
 use Rattle.pl_model.specs.Rows.{has_dependents, is_doomed, is_left, row_numbers}
-use Rattle.pl_model_laws.specs.Apart.{AreApart, KeepsApart}
 use Rattle.pl_model.specs.RunData.{NameProviders}
+use Rattle.pl_model_stays.proofs.Growing.{run_of}
+use Rattle.pl_model_stays.proofs.Pairs.{pairs-all}
+use Rattle.pl_model_stays.proofs.Recorded.{recorded-after-references, recorded-held}
+use Rattle.pl_model_stays.proofs.Listing.{removable-parts}
+use Rattle.pl_model_laws.specs.Apart.{AreApart, KeepsApart}
 use Rattle.pl_model_laws.proofs.Dependents.{depended}
 use Rattle.pl_model_laws.proofs.Founding.{all_back, held, old_is}
-use Rattle.pl_model_laws.proofs.Growing.{equal_numbers, run_of, same_number}
 use Rattle.pl_model_laws.proofs.Keeping.{merged_pairs}
-use Rattle.pl_model_laws.proofs.Once.{and_left, and_right}
-use Rattle.pl_model_laws.proofs.Pairs.{Each, Pairwise, pairs-all}
 use Rattle.pl_model_laws.proofs.Provided.{providers-provide}
 use Rattle.pl_model_laws.proofs.Providers.{provider-id}
-use Rattle.pl_model_laws.proofs.Recorded.{recorded-after-references, recorded-held}
-use Rattle.pl_model_laws.proofs.Referring.{ProvidersProvide, Standing, all_weaker, entry_met, further_of, is_named, number_found, recorded_stands, reference_met, same_wants}
-use Rattle.pl_model_laws.proofs.Removing.{removable-parts}
+use Rattle.pl_model_laws.proofs.Referring.{ProvidersProvide, Standing, entry_met, further_of, is_named, number_found, recorded_stands, reference_met, same_wants}
 use Rattle.pl_model_laws.proofs.Sounding.{sound-apart, sound-from}
-use Rattle.pl_model_laws.proofs.Standing.{passing, some_there}
 use Rattle.pl_model_laws.proofs.Wants.{found_by_met, met_by_tests}
 
 -- ---- references

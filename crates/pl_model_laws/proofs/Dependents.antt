@@ -1,7 +1,8 @@
 -- A row goes only once the later rows that refer to it are gone.
-use Rattle.std.proofs.Common.{◌≡◌, ℕ, zero, suc, ◌+◌, ◌<◌, ◌≤◌, ◌==◌, Bool, true, false, ◌&&◌, ◌||◌, cond, List, [], ◌∷◌, length, Option, Some, None, refl, sym, ◌∙◌, ap, subst, inl, inr, ◌⊎◌, arith, find, nat_lt, eq-or-lt_of_le}
-use Rattle.std.proofs.lemmas.Bool.Decides.{nat_tests}
-use Rattle.std.specs.List.{cons_option, list_any, range_with_len}
+use Rattle.std.proofs.Common.{◌≡◌, ℕ, ◌==◌, Bool, true, false, ◌&&◌, ◌||◌, cond, List, ◌∷◌, length, Option, Some, None, refl, sym, ◌∙◌, ap, subst, arith, find, nat_lt, []}
+use Rattle.std.specs.List.{cons_option, list_any}
+use Rattle.std.proofs.Math.Bool.{or-true}
+use Rattle.pl_lemmas.proofs.Numbers.{equal_numbers, below_length, range_has}
 use Rattle.pl_state.specs.Chain.{refers_to}
 use Rattle.pl_events.specs.declared.event.Event.{Event}
 use Rattle.pl_events.specs.declared.event.What.{What}
@@ -18,25 +19,15 @@ use Rattle.pl_model.specs.Due.{is_due, is_due_on, is_removable}
 use Rattle.pl_model.specs.History.{known_of}
 use Rattle.pl_model.specs.Known.{Known}
 use Rattle.pl_model.specs.Legal.{IsOrderly, MayHappen}
-use Rattle.pl_model.specs.Recording.{has_number, is_removed, only_if, removed_by, removed_of, row_of_delete}
+use Rattle.pl_lemmas.specs.Words.{has_number, only_if}
+use Rattle.pl_model.specs.Recording.{is_removed, removed_by, removed_of, row_of_delete}
 use Rattle.pl_model.specs.Rows.{has_dependents, is_left, is_taken_out, is_taken_over}
 use Rattle.pl_model.specs.Tickets.{begun_of, errand_at, same_op, was_begun}
-use Rattle.pl_model_laws.proofs.Growing.{equal_numbers, or_true, run_of}
-use Rattle.pl_model_laws.proofs.Leaving.{left_parts}
-use Rattle.pl_model_laws.proofs.Once.{equal_ops}
-use Rattle.pl_model_laws.proofs.Removing.{deleted-removable, dropped-removable, removable-parts}
+use Rattle.pl_model_stays.proofs.Growing.{run_of}
+use Rattle.pl_model_stays.proofs.Once.{equal_ops, left_parts}
+use Rattle.pl_model_stays.proofs.Listing.{removable-parts, dropped-removable}
+use Rattle.pl_model_laws.proofs.Removing.{deleted-removable}
 use Rattle.pl_model_laws.proofs.TakenOut.{left-before}
-
--- a number within a range is found there
-pub number_within : (test : ℕ → Bool) (a n k : ℕ) → a ≤ k → k < a + n → test k ≡ true → list_any test (range_with_len a n) ≡ true
-number_within test a zero k low high h = absurd (omega arith)
-number_within test a (suc n) k low high h =
-    by (eq-or-lt_of_le low) (λ later. number_within test (a + 1) n k (omega arith) (omega arith) h)
-  where
-    by : (a ≡ k) ⊎ (a < k) → (a < k → list_any test (range_with_len (a + 1) n) ≡ true)
-        → (test a || list_any test (range_with_len (a + 1) n)) ≡ true
-    by (inl is) rest = ap (λ (b : Bool). b || list_any test (range_with_len (a + 1) n)) (ap (λ (j : ℕ). test j) is ∙ h)
-    by (inr later) rest = ap (λ (b : Bool). test a || b) (rest later) ∙ or_true (test a)
 
 -- what is found and passes a second test shows that some pass it
 found_passes : {X : Type 0} (test other : X → Bool) (xs : List X) (x : X) → find test xs ≡ Some x
@@ -50,11 +41,7 @@ found_passes {X = X} test other (first ∷ xs) x h passes = by (test first) (fou
         let e : Some first ≡ Some x = h in
         let same : first ≡ x = cc in
         ap (λ (one : X). other one || list_any other xs) same ∙ ap (λ (b : Bool). b || list_any other xs) passes
-    by false rest h = ap (λ (b : Bool). other first || b) (rest h passes) ∙ or_true (other first)
-
--- a place below a count, as a range has it
-below_length : (row count : ℕ) → nat_lt row count ≡ true → row < 0 + count
-below_length row count h = grind (arith, nat_tests)
+    by false rest h = ap (λ (b : Bool). other first || b) (rest h passes) ∙ or-true (other first)
 
 -- ---- what has a later row that is left
 
@@ -65,7 +52,7 @@ module _ (known : Known) (later earlier : ℕ) (refers : refers_to (rows_of know
   depended =
       let below : nat_lt later (length (rows_of known.run)) ≡ true =
       (left_parts (nat_lt later (length (rows_of known.run))) (is_taken_out known later) (is_taken_over known later) left).0 in
-      number_within (λ (row : ℕ). refers_to (rows_of known.run) row earlier && is_left known row) 0
+      range_has (λ (row : ℕ). refers_to (rows_of known.run) row earlier && is_left known row) 0
       (length (rows_of known.run)) later (omega arith) (below_length later (length (rows_of known.run)) below)
       (ap (λ (b : Bool). b && is_left known later) refers ∙ left)
 

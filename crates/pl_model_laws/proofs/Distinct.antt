@@ -4,6 +4,10 @@ use Rattle.std.proofs.lemmas.Slice.Eq.{bytes_eq-Decides}
 use Rattle.std.specs.List.{starts_with}
 use Rattle.std.specs.Option.{option_or}
 use Rattle.std.specs.Str.{bytes_eq}
+use Rattle.std.proofs.lemmas.Option.{same_Some}
+use Rattle.pl_lemmas.proofs.Truth.{and_left, and_right}
+use Rattle.pl_lemmas.proofs.Options.{neither}
+use Rattle.pl_lemmas.proofs.Numbers.{equal_numbers}
 use Rattle.pl_urn.specs.Grammar.{IsScope, child_fault, package_of, provider_prefix}
 use Rattle.pl_urn.proofs.Children.{own_type_of-child}
 use Rattle.pl_options.specs.GoalOf.{GoalResult, given, goal_of}
@@ -23,29 +27,19 @@ use Rattle.pl_decide.specs.declared.problem.Problem.TheVariants.{BadOption, Dupl
 use Rattle.pl_model.specs.declared.fixed.Fixed.{Fixed}
 use Rattle.pl_model.specs.declared.heard.Fate.TheVariants.{Halted as halted}
 use Rattle.pl_model.specs.Run.{HasNames, has_host}
-use Rattle.pl_model.specs.Claims.{goal_number, numbered}
+use Rattle.pl_lemmas.specs.Words.{first_in, numbered}
+use Rattle.pl_model.specs.Claims.{goal_number}
 use Rattle.pl_model.specs.History.{goals_after, known_of}
 use Rattle.pl_model.specs.Known.{Known, goal_at, has_problem}
 use Rattle.pl_model.specs.Legal.{IsOrderly, MayHappen}
-use Rattle.pl_model.specs.Requests.{default_goal, default_urn, fate_by, fate_of, first_in, goal_refusal, goals_by, goals_made, has_goal, invoked_version, is_bad_default, named_provider, refusal_of, refused_if, result_refusal, unknown_references, uses_default, with_default, with_goal, with_invoked, with_provider, with_result}
-use Rattle.pl_model_laws.proofs.Growing.{equal_numbers, run_of}
-use Rattle.pl_model_laws.proofs.Once.{and_left, and_right, not_true}
+use Rattle.pl_model.specs.Requests.{default_goal, default_urn, fate_by, fate_of, goal_refusal, goals_by, goals_made, has_goal, invoked_version, is_bad_default, named_provider, refusal_of, refused_if, result_refusal, unknown_references, uses_default, with_default, with_goal, with_invoked, with_provider, with_result}
+use Rattle.pl_model_stays.proofs.Growing.{run_of}
+use Rattle.pl_model_stays.proofs.Once.{not_true}
+use Rattle.pl_model_stays.proofs.Staying.{not_refused}
 
 pub none_left : {X : Type 0} (o : Option X) → is_some o ≡ false → o ≡ None
 none_left None h = refl
 none_left (Some x) h = absurd (let e : true ≡ false = h in cc)
-
-pub some_equal : {X : Type 0} (x y : X) → Some x ≡ Some y → x ≡ y
-some_equal x y h = cc
-
--- where neither of two problems stands
-pub or_none : {X : Type 0} (first second : Option X) → option_or first second ≡ None → (first ≡ None) × (second ≡ None)
-or_none None second h = (refl, h)
-or_none (Some x) second h = absurd (let e : Some x ≡ None = h in cc)
-
-pub not_refused : (b : Bool) (problem : Problem) → refused_if b problem ≡ None → b ≡ false
-not_refused true problem h = absurd (let e : Some problem ≡ None = h in cc)
-not_refused false problem h = refl
 
 -- ---- lists of goals
 
@@ -70,7 +64,7 @@ free_other (newest ∷ earlier) urn number goal free h same =
         → (if at then Some newest else numbered earlier number) ≡ Some goal → ⊥
     by true is at rest free h = absurd (let e : Some (length earlier) ≡ None = free in cc)
     by false is true rest free h =
-        let urns : newest.urn ≡ urn = ap (λ (one : Goal). one.urn) (some_equal newest goal h) ∙ same in
+        let urns : newest.urn ≡ urn = ap (λ (one : Goal). one.urn) (same_Some newest goal h) ∙ same in
         absurd (let e : false ≡ true = sym is ∙ (bytes_eq-Decides newest.urn urn).1 urns in cc)
     by false is false rest free h = rest free h same
 
@@ -87,9 +81,9 @@ apart_numbers (newest ∷ earlier) apart one other first second h k same =
         → (if b then Some newest else numbered earlier other) ≡ Some second → one ≡ other
     by true is true at rest h k = sym (equal_numbers (length earlier) one is) ∙ equal_numbers (length earlier) other at
     by true is false at rest h k = absurd (free_other earlier newest.urn other second apart.1 k
-        (sym same ∙ ap (λ (goal : Goal). goal.urn) (sym (some_equal newest first h))))
+        (sym same ∙ ap (λ (goal : Goal). goal.urn) (sym (same_Some newest first h))))
     by false is true at rest h k = absurd (free_other earlier newest.urn one first apart.1 h
-        (same ∙ ap (λ (goal : Goal). goal.urn) (sym (some_equal newest second k))))
+        (same ∙ ap (λ (goal : Goal). goal.urn) (sym (same_Some newest second k))))
     by false is false at rest h k = rest h k same
 
 -- ---- default providers
@@ -148,9 +142,9 @@ pub record IsAllowed (known : Known) (told : Registration) (goal : Goal) : Type 
 
 pub IsAllowed-from_refusal : (known : Known) (told : Registration) (goal : Goal) → goal_refusal known told goal ≡ None → IsAllowed known told goal
 IsAllowed-from_refusal known told goal h =
-    let parts = or_none (refused_if (uses_default told goal && is_bad_default (package_of goal.urn) goal.version) (BadOption (BadUrn goal.kind)))
+    let parts = neither (refused_if (uses_default told goal && is_bad_default (package_of goal.urn) goal.version) (BadOption (BadUrn goal.kind)))
     (option_or (option_map UnknownReference (first_in (unknown_references known told goal))) (refused_if (has_goal known goal.urn) (DuplicateUrn goal.urn))) h in
-    let rest = or_none (option_map UnknownReference (first_in (unknown_references known told goal)))
+    let rest = neither (option_map UnknownReference (first_in (unknown_references known told goal)))
     (refused_if (has_goal known goal.urn) (DuplicateUrn goal.urn)) parts.1 in
     record {
       default_made = not_refused (uses_default told goal && is_bad_default (package_of goal.urn) goal.version) (BadOption (BadUrn goal.kind)) parts.0;

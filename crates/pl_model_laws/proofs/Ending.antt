@@ -3,7 +3,12 @@ use Rattle.std.proofs.Common.{◌≡◌, ℕ, ◌≤◌, ◌<◌, Bool, true, fa
 use Rattle.std.proofs.lemmas.Bool.Decides.{nat_tests}
 use Rattle.std.proofs.lemmas.Option.{slice_get_cases, slice_get_within}
 use Rattle.std.specs.List.{list_any}
-use Rattle.pl_state.specs.Chain.{refers_to, some_passes}
+use Rattle.pl_lemmas.proofs.Truth.{and_left, and_fails}
+use Rattle.pl_lemmas.proofs.Numbers.{range_has}
+use Rattle.pl_lemmas.proofs.Lists.{append_none, map_none}
+use Rattle.pl_lemmas.specs.Words.{first_in, option_list, some_passes}
+use Rattle.pl_lemmas.proofs.Options.{list_none}
+use Rattle.pl_state.specs.Chain.{refers_to}
 use Rattle.pl_state.specs.declared.entry.Entry.{Entry}
 use Rattle.pl_events.specs.declared.event.Event.{Event}
 use Rattle.pl_decide.specs.Permits.{is_wanted}
@@ -15,19 +20,15 @@ use Rattle.pl_model.specs.History.{known_of}
 use Rattle.pl_model.specs.Known.{Known, has_problem, host_ended, is_over, known_by}
 use Rattle.pl_model.specs.Legal.{IsOrderly}
 use Rattle.pl_model.specs.Problems.{end_problems, ends_well, first_row, holds_doomed, is_unpermitted, lacks_provider, limit_problem, made_problems, refresh_problems, row_problem, start_problems}
-use Rattle.pl_state.specs.References.{option_list}
-use Rattle.pl_model.specs.Requests.{first_in}
 use Rattle.pl_model.specs.Rows.{is_doomed, is_left, is_taken_out, is_taken_over, is_target, row_at, row_numbers}
+use Rattle.pl_model_stays.proofs.Growing.{run_of}
+use Rattle.pl_model_stays.proofs.Once.{left_parts, both}
 use Rattle.pl_model_laws.specs.Apart.{KeepsApart}
-use Rattle.pl_model_laws.proofs.Calm.{append_none, calm-before, first_none, map_none, no-end, no-made, no_problems, option_list_none, range_each}
-use Rattle.pl_model_laws.proofs.Dependents.{number_within}
-use Rattle.pl_model_laws.proofs.Growing.{run_of}
+use Rattle.pl_model_laws.proofs.Calm.{calm-before, first_none, no-end, no-made, no_problems, range_each}
 use Rattle.pl_model_laws.proofs.Going.{doomed-parts, provided-later}
-use Rattle.pl_model_laws.proofs.Leaving.{left_parts}
-use Rattle.pl_model_laws.proofs.Once.{and_left}
 use Rattle.pl_model_laws.proofs.Removing.{Later, later-before, later-now, later-through}
 use Rattle.pl_model_laws.proofs.TakenOut.{left-before}
-use Rattle.pl_model_laws.proofs.Troubles.{and_made, or_first}
+use Rattle.pl_model_laws.proofs.Troubles.{or_first}
 
 -- ---- where the run became over
 
@@ -143,11 +144,6 @@ row_fails known trouble test row entry none at = by (test row entry) refl
         let nothing : Option Problem = None in
         absurd (let e : Some (trouble entry.urn) ≡ nothing = sym there ∙ missing in cc)
 
--- of two tests the second fails where the first passes and both do not
-second_fails : (a b : Bool) → (a && b) ≡ false → a ≡ true → b ≡ false
-second_fails true b h first = h
-second_fails false b h first = absurd (let e : false ≡ true = first in cc)
-
 -- the problems of the end, none of which stands
 pub record IsClean (known : Known) : Type 0 where
   pub unprotected : first_row known problem.Protected (λ row entry. is_doomed known row && entry.protect) ≡ None
@@ -162,9 +158,9 @@ clean_parts known h =
     let first = append_none (option_list unprotected) (option_list provided ++ option_list (limit_problem known)) h in
     let second = append_none (option_list provided) (option_list (limit_problem known)) first.1 in
     record {
-      unprotected = option_list_none unprotected first.0;
-      provided = option_list_none provided second.0;
-      permitted = option_list_none (limit_problem known) second.1;
+      unprotected = list_none unprotected first.0;
+      provided = list_none provided second.0;
+      permitted = list_none (limit_problem known) second.1;
     }
 
 -- a row that is left is one of the rows
@@ -182,15 +178,15 @@ held_target known later earlier permitted left refers doomed = by (is_destroy kn
     some_doomed : list_any (λ (row : ℕ). refers_to (rows_of known.run) later row && is_doomed known row) (row_numbers known) ≡ true
     some_doomed =
         let inside : earlier < length (rows_of known.run) = left_within known earlier (doomed-parts known earlier doomed).left in
-        number_within (λ (row : ℕ). refers_to (rows_of known.run) later row && is_doomed known row) 0 (length (rows_of known.run)) earlier
+        range_has (λ (row : ℕ). refers_to (rows_of known.run) later row && is_doomed known row) 0 (length (rows_of known.run)) earlier
         (omega arith) (omega arith)
-        (and_made (refers_to (rows_of known.run) later earlier) (is_doomed known earlier) refers doomed)
+        (both (refers_to (rows_of known.run) later earlier) (is_doomed known earlier) refers doomed)
 
     wanted : (entry : Entry) (b : Bool) → is_wanted known.run.limits entry.urn ≡ b → holds_doomed known later entry ≡ false → b ≡ true
     wanted entry true is none = refl
     wanted entry false is none =
         let held : holds_doomed known later entry ≡ true =
-        and_made (not (is_wanted known.run.limits entry.urn)) _ (ap (λ (b : Bool). not b) is) some_doomed in
+        both (not (is_wanted known.run.limits entry.urn)) _ (ap (λ (b : Bool). not b) is) some_doomed in
         absurd (let e : true ≡ false = sym held ∙ none in cc)
 
     at : first_row known problem.NotPermitted (holds_doomed known) ≡ None → (o : Option Entry) → row_at known later ≡ o
@@ -240,26 +236,15 @@ module _ (run : Fixed) (history : List Event) (orderly : IsOrderly run history) 
       let target : is_target (known_of run past) row ≡ true =
       subst (λ (fixed : Fixed). (not (is_destroy fixed.mode)
       || some_passes (λ (entry : Entry). is_wanted fixed.limits entry.urn) (slice_get (rows_of fixed) row)) ≡ true) same parts.target in
-      and_made (is_left (known_of run past) row && not (is_refresh (known_of run past).run.mode) && is_target (known_of run past) row) _
-      (and_made (is_left (known_of run past) row && not (is_refresh (known_of run past).run.mode)) _
-      (and_made (is_left (known_of run past) row) _ (ended.left row parts.left) other) target)
+      both (is_left (known_of run past) row && not (is_refresh (known_of run past).run.mode) && is_target (known_of run past) row) _
+      (both (is_left (known_of run past) row && not (is_refresh (known_of run past).run.mode)) _
+      (both (is_left (known_of run past) row) _ (ended.left row parts.left) other) target)
       (or_first (is_over (known_of run past)) _ ended.over)
 
   -- where a row is doomed not everything is read anew
   other_mode : (row : ℕ) → is_doomed known row ≡ true → is_refresh run.mode ≡ false
   other_mode row h =
       subst (λ (fixed : Fixed). is_refresh fixed.mode ≡ false) (run_of run history) (doomed-parts known row h).other
-
-  -- where the run is over and no problem stands, a row that is to go is not protected
-  pub end-unprotected : has_problem known ≡ false → is_over known ≡ true → (row : ℕ) (entry : Entry)
-      → is_doomed known row ≡ true → row_at known row ≡ Some entry → entry.protect ≡ false
-  end-unprotected calm over row entry doomed at =
-      let found = over-clean run history orderly (other_mode row doomed) calm over in
-      let told : Known = known_of run found.0 in
-      let clean = clean_parts told found.1.clean in
-      second_fails (is_doomed told row) entry.protect
-      (row_fails told problem.Protected (λ number it. is_doomed told number && it.protect) row entry clean.unprotected (row_then found.0 row ∙ at))
-      (doomed_then found.0 found.1 row doomed)
 
   -- and it has its provider, where it must be sent for
   pub end-provided : is_preview run.mode ≡ false → KeepsApart (rows_of run) → has_problem known ≡ false → is_over known ≡ true
@@ -269,7 +254,7 @@ module _ (run : Fixed) (history : List Event) (orderly : IsOrderly run history) 
       let told : Known = known_of run found.0 in
       let clean = clean_parts told found.1.clean in
       provided-later run history orderly found.0 found.1.later found.1.orderly real apart row (doomed-parts known row doomed).left
-      (second_fails (is_doomed told row) (lacks_provider told row)
+      (and_fails (is_doomed told row) (lacks_provider told row)
       (row_fails told problem.MissingProvider (λ number it. is_doomed told number && lacks_provider told number) row entry clean.provided
       (row_then found.0 row ∙ at))
       (doomed_then found.0 found.1 row doomed))

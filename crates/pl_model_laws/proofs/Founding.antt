@@ -7,6 +7,10 @@ use Rattle.std.proofs.lemmas.Option.{get_or_from_slice_get, slice_get-get_or, sl
 use Rattle.std.proofs.lemmas.Slice.Eq.{bytes_eq-Decides}
 use Rattle.std.specs.List.{cons_option, list_any, range_with_len}
 use Rattle.std.specs.Option.{option_or}
+use Rattle.std.proofs.Math.Bool.{or-true}
+use Rattle.pl_lemmas.proofs.Truth.{and_left, and_right}
+use Rattle.pl_lemmas.proofs.Numbers.{range_more}
+use Rattle.pl_lemmas.proofs.Each.{Each}
 use Rattle.pl_reference.specs.declared.reference.ProviderRef.{ProviderRef}
 use Rattle.pl_state.specs.Chain.{refers_to}
 use Rattle.pl_state.specs.Kinds.{is_of_provider, is_provider_goal, is_provider_row}
@@ -17,36 +21,38 @@ use Rattle.pl_state.specs.declared.fault.Missing.{Missing}
 use Rattle.pl_state.specs.declared.fault.Missing.TheVariants.{Twice, Parent, Provider, Dependency, DeletedWith}
 use Rattle.pl_state.specs.declared.goal.Goal.{Goal}
 use Rattle.pl_events.specs.declared.event.Event.{Event}
+use Rattle.pl_options.specs.Names.{id_text}
 use Rattle.pl_model.specs.declared.decided.Decided.{Decided}
 use Rattle.pl_model.specs.declared.fixed.Fixed.{Fixed}
 use Rattle.pl_model.specs.Run.{HasNames, is_preview, is_refresh, rows_of}
-use Rattle.pl_options.specs.Names.{id_text}
-use Rattle.pl_model.specs.Claims.{claimed_row, id_of_row, is_row, is_usable, usable_id}
+use Rattle.pl_lemmas.specs.Words.{has_number, is_row}
+use Rattle.pl_lemmas.proofs.Options.{row_is}
+use Rattle.pl_model.specs.Claims.{claimed_row, id_of_row, is_usable, usable_id}
 use Rattle.pl_model.specs.Entries.{new_entries, old_entries, old_row, recorded_entry, row_now, turnings}
 use Rattle.pl_model.specs.History.{known_of}
 use Rattle.pl_model.specs.Known.{Known, claim_of, claim_row, decided_goal, goal_at, is_recorded, provider_id}
 use Rattle.pl_model.specs.Legal.{IsOrderly}
-use Rattle.pl_model.specs.Recording.{fresh_of, has_number, recorded_of, removed_of}
+use Rattle.pl_model.specs.Recording.{fresh_of, recorded_of, removed_of}
 use Rattle.pl_model.specs.Rows.{is_left, is_taken_over, row_at, row_numbers}
 use Rattle.pl_model.specs.State.{state_of}
-use Rattle.pl_model_laws.specs.Apart.{KeepsApart}
-use Rattle.pl_model_laws.specs.Order.{RecordedAfterReferences}
 use Rattle.pl_model.specs.RunData.{NameProviders, NamesProvider}
+use Rattle.pl_model_stays.specs.Order.{RecordedAfterReferences}
+use Rattle.pl_model_stays.proofs.Growing.{run_of}
+use Rattle.pl_model_stays.proofs.Once.{history_of}
+use Rattle.pl_model_stays.proofs.Pairs.{each_map}
+use Rattle.pl_model_stays.proofs.Recorded.{recorded-held}
+use Rattle.pl_model_stays.proofs.Standing.{claim-of-decided, entry-there, recording-there}
+use Rattle.pl_model_laws.specs.Apart.{KeepsApart}
 use Rattle.pl_model_laws.proofs.Dependents.{gone_last}
-use Rattle.pl_model_laws.proofs.Growing.{or_true, run_of}
 use Rattle.pl_model_laws.proofs.Keeping.{entries_merged, merged_apart}
-use Rattle.pl_model_laws.proofs.Once.{and_left, and_right, history_of}
-use Rattle.pl_model_laws.proofs.Pairs.{Each}
 use Rattle.pl_model_laws.proofs.Provided.{providers-provide}
 use Rattle.pl_model_laws.proofs.Providers.{provider-id}
-use Rattle.pl_model_laws.proofs.Recorded.{recorded-held}
 use Rattle.pl_model_laws.proofs.Referring.{Held, ProvidersProvide, entry_met, new-met}
 use Rattle.pl_model_laws.proofs.Sounding.{AreMet, RefersBack, any_found, refers-more, refers-none, sound-apart, sound-back, sound-from}
-use Rattle.pl_model_laws.proofs.Standing.{claim-of-decided, entry-there, recording-there}
 use Rattle.pl_model_laws.proofs.TakenOver.{all-decided, taken-turned}
 use Rattle.pl_model_laws.proofs.Turning.{IsTurned, row-turned, turned_by}
 use Rattle.pl_model_laws.proofs.TurningProviders.{provider-turned}
-use Rattle.pl_model_laws.proofs.Wants.{IsReference, changed_reference, each_map, each_provider, met_by_tests, refs_are, refs_name, refs_turned}
+use Rattle.pl_model_laws.proofs.Wants.{IsReference, changed_reference, each_provider, met_by_tests, refs_are, refs_name, refs_turned}
 
 append_twice : {X : Type 0} (xs ys zs : List X) → (xs ++ ys) ++ zs ≡ xs ++ (ys ++ zs)
 append_twice [] ys zs = refl
@@ -69,12 +75,6 @@ filter_append {X} p (x ∷ xs) ys = by (p x) refl (filter_append p xs ys)
     by true is rest = rw is (ap (λ (zs : List X). x ∷ zs) rest)
     by false is rest = rw is rest
 
-range_more : (a n : ℕ) → range_with_len a (suc n) ≡ range_with_len a n ++ (a + n) ∷ []
-range_more a zero = ap (λ (k : ℕ). k ∷ []) (omega arith)
-range_more a (suc n) =
-    ap (λ (ks : List ℕ). a ∷ ks) (range_more (a + 1) n
-    ∙ ap (λ (k : ℕ). range_with_len (a + 1) n ++ k ∷ []) (omega arith))
-
 range_first : (n : ℕ) → range_with_len 0 (suc n) ≡ range_with_len 0 n ++ n ∷ []
 range_first n = range_more 0 n ∙ ap (λ (k : ℕ). range_with_len 0 n ++ k ∷ []) (let e : 0 + n ≡ n = omega arith in e)
 
@@ -92,7 +92,7 @@ range_has {Y = Y} test f p a (suc n) k y low high passes is holds =
       where
         front : (o : Option Y) → f a ≡ o → list_any test (cons_option o (filter_map f (filter p (range_with_len (a + 1) n)))) ≡ true
         front None found = rest
-        front (Some z) found = rw rest (or_true (test z))
+        front (Some z) found = rw rest (or-true (test z))
 
     at : (a ≡ k) ⊎ (a < k) → (a < k → list_any test (filter_map f (filter p (range_with_len (a + 1) n))) ≡ true)
         → list_any test (filter_map f (filter p (range_with_len a (suc n)))) ≡ true
@@ -105,10 +105,6 @@ pub some_at : {X : Type 0} (xs : List X) (i : ℕ) → i < length xs → (x : X)
 some_at [] i low = absurd (omega arith)
 some_at (x ∷ xs) zero low = (x, refl)
 some_at (x ∷ xs) (suc i) low = some_at xs i (omega arith)
-
-pub row_is : (claim : Option ℕ) (row : ℕ) → is_row claim row ≡ true → claim ≡ Some row
-row_is None row h = absurd (let e : false ≡ true = h in cc)
-row_is (Some own) row h = ap (λ (n : ℕ). Some n) (grind (arith, nat_tests))
 
 usable_as : (id : List ℕ) → is_usable id ≡ true → usable_id (Some id) ≡ Some id
 usable_as id h = rw h refl
@@ -191,7 +187,7 @@ module _ (run : Fixed) (history : List Event) (real : is_preview run.mode ≡ fa
   in_old test count place row low left is passes =
       list_any-append test (new_entries now) (old_of count)
       ∙ ap (λ (b : Bool). list_any test (new_entries now) || b) (range_has test (old_row now) stays 0 count place row (omega arith) (omega arith) left is passes)
-      ∙ or_true (list_any test (new_entries now))
+      ∙ or-true (list_any test (new_entries now))
 
   -- a recorded goal's entry
   record HasEntry (number : ℕ) (goal : Goal) : Type 0 where

@@ -1,9 +1,12 @@
 -- From its first operation or its keep on, a goal's URN is its own among the rows that are to stay, and what goes before it is gone.
-use Rattle.std.proofs.Common.{◌≡◌, ◌≢◌, ℕ, zero, suc, ◌+◌, ◌<◌, ◌≤◌, ◌==◌, Bool, true, false, not, ◌&&◌, ◌||◌, if◌then◌else◌, List, [], ◌∷◌, length, nat_lt, slice_get, Option, Some, None, is_none, is_some, refl, sym, ◌∙◌, ap, subst, inl, inr, ◌⊎◌, arith, eq-or-lt_of_le}
+use Rattle.std.proofs.Common.{◌≡◌, ◌≢◌, ℕ, ◌==◌, Bool, true, false, not, ◌&&◌, ◌||◌, if◌then◌else◌, List, ◌∷◌, length, nat_lt, slice_get, Option, Some, None, is_none, is_some, refl, sym, ◌∙◌, ap, subst, arith, []}
 use Rattle.std.proofs.lemmas.Bool.Decides.{nat_tests}
 use Rattle.std.proofs.lemmas.Slice.Eq.{bytes_eq-Decides}
-use Rattle.std.specs.List.{cons_option, list_all, list_any, range_with_len}
-use Rattle.pl_state.specs.Chain.{some_passes}
+use Rattle.std.specs.List.{cons_option, list_all, list_any}
+use Rattle.std.proofs.lemmas.Option.{same_Some}
+use Rattle.pl_lemmas.proofs.Truth.{and_left, and_right}
+use Rattle.pl_lemmas.proofs.Numbers.{equal_numbers}
+use Rattle.pl_lemmas.specs.Words.{has_number, is_row, none_or, some_passes}
 use Rattle.pl_state.specs.Kinds.{is_provided}
 use Rattle.pl_state.specs.declared.entry.Entry.{Entry}
 use Rattle.pl_state.specs.declared.goal.Goal.{Goal}
@@ -13,27 +16,28 @@ use Rattle.pl_events.specs.declared.event.What.TheVariants.{Answered, Begun, Kep
 use Rattle.pl_events.specs.declared.operation.Op.{Op}
 use Rattle.pl_decide.specs.declared.decision.Decision.{Decision}
 use Rattle.pl_decide.specs.declared.decision.Decision.TheVariants as decision
+use Rattle.pl_decide.specs.Limited.{is_create_first, is_delete_first, is_refused, is_replacement}
 use Rattle.pl_model.specs.declared.decided.Decided.{Decided}
 use Rattle.pl_model.specs.declared.errand.Errand.{Errand}
 use Rattle.pl_model.specs.declared.fixed.Fixed.{Fixed}
 use Rattle.pl_model.specs.declared.work.Work.TheVariants.{Keep as to_keep, Send as to_send}
 use Rattle.pl_model.specs.Run.{is_preview, rows_of}
-use Rattle.pl_decide.specs.Limited.{is_create_first, is_delete_first, is_refused, is_replacement}
-use Rattle.pl_model.specs.Claims.{chain_of_claim, chain_of_goal, is_row}
-use Rattle.pl_model.specs.Due.{holds_urn, is_due, is_due_on, is_placed, is_ready_on, keeps_goal, none_or, op_of_decision, op_of_goal, passes_limit, provider_stands, references_recorded, sends_goal, urn_is_free, way_is_free}
+use Rattle.pl_model.specs.Claims.{chain_of_claim, chain_of_goal}
+use Rattle.pl_model.specs.Due.{holds_urn, is_due, is_due_on, is_placed, is_ready_on, keeps_goal, op_of_decision, op_of_goal, passes_limit, provider_stands, references_recorded, sends_goal, urn_is_free, way_is_free}
 use Rattle.pl_model.specs.History.{known_of}
 use Rattle.pl_model.specs.Known.{Known, decided_goal, goal_at, has_problem, is_recorded}
 use Rattle.pl_model.specs.Legal.{IsOrderly, MayHappen}
-use Rattle.pl_model.specs.Recording.{goal_of_op, has_number, recorded_by, recorded_of}
+use Rattle.pl_model.specs.Recording.{goal_of_op, recorded_by, recorded_of}
 use Rattle.pl_model.specs.Rows.{is_left, is_marked, row_at, row_numbers, was_removed}
 use Rattle.pl_model.specs.Tickets.{begun_of, errand_by, same_op, was_begun}
+use Rattle.pl_model_stays.proofs.Claiming.{unprovided-stays, was-made}
+use Rattle.pl_model_stays.proofs.Growing.{decisions-stay, goals-stay, run_of}
+use Rattle.pl_model_stays.proofs.Once.{equal_ops, not_true, left_parts}
+use Rattle.pl_model_stays.proofs.Recorded.{found, ready_sends, recorded-held}
+use Rattle.pl_model_stays.proofs.Staying.{answered_errand, errand_sent, sent_begun}
+use Rattle.pl_model_stays.proofs.Ranges.{range_lacks}
 use Rattle.pl_model_laws.specs.Apart.{KeepsApart}
-use Rattle.pl_model_laws.proofs.Claiming.{unprovided-stays, was-made}
-use Rattle.pl_model_laws.proofs.Growing.{decisions-stay, equal_numbers, goals-stay, run_of}
-use Rattle.pl_model_laws.proofs.Once.{and_left, and_right, equal_ops, not_true}
-use Rattle.pl_model_laws.proofs.Leaving.{left_parts, neither, not_earlier, unmarked-before, unmarked-urn}
-use Rattle.pl_model_laws.proofs.Recorded.{found, ready_sends, recorded-held}
-use Rattle.pl_model_laws.proofs.Staying.{answered_errand, errand_sent, sent_begun, some_same}
+use Rattle.pl_model_laws.proofs.Leaving.{neither, not_earlier, unmarked-before, unmarked-urn}
 use Rattle.pl_model_laws.proofs.TakenOut.{left-before}
 
 -- no row that is to stay has the goal's URN, but the row that the goal claims; no row of the goal's chain is left
@@ -86,22 +90,6 @@ chain_first run one row h = by (is_delete_first one.decision) h
 second_of_two : (a b : Bool) → (not a || b) ≡ true → a ≡ true → b ≡ true
 second_of_two true b h is = h
 second_of_two false b h is = absurd (let e : false ≡ true = is in cc)
-
--- a number of a range does not pass a test that none of them passes
-pub range_lacks : (p : ℕ → Bool) (a n k : ℕ) → a ≤ k → k < a + n → list_any p (range_with_len a n) ≡ false → p k ≡ false
-range_lacks p a zero k low high h = absurd (omega arith)
-range_lacks p a (suc n) k low high h = by (p a) refl h (eq-or-lt_of_le low)
-    (λ later none. range_lacks p (a + 1) n k (omega arith) (omega arith) none)
-  where
-    by : (b : Bool) → p a ≡ b → (b || list_any p (range_with_len (a + 1) n)) ≡ false → (a ≡ k) ⊎ (a < k)
-        → (a < k → list_any p (range_with_len (a + 1) n) ≡ false → p k ≡ false) → p k ≡ false
-    by true is none at rest = absurd (let e : true ≡ false = none in cc)
-    by false is none (inl same) rest = subst (λ (j : ℕ). p j ≡ false) same is
-    by false is none (inr later) rest = rest later none
-
-some_there : {X : Type 0} (o : Option X) → is_some o ≡ true → (x : X) × (o ≡ Some x)
-some_there (Some x) h = (x, refl)
-some_there None h = absurd (let e : false ≡ true = h in cc)
 
 module _ (run : Fixed) (real : is_preview run.mode ≡ false) (apart : KeepsApart (rows_of run)) where
   module _ (history : List Event) (orderly : IsOrderly run history) where
@@ -157,7 +145,7 @@ module _ (run : Fixed) (real : is_preview run.mode ≡ false) (apart : KeepsApar
             by true is = refl
             by false is =
                 let made = was-made run history number one decided in
-                let same : made.goal ≡ goal = some_same made.goal goal (sym made.stands ∙ stands) in
+                let same : made.goal ≡ goal = same_Some made.goal goal (sym made.stands ∙ stands) in
                 let never : is_replacement one.decision ≡ false =
                 unprovided-stays run history number one made (ap (λ (it : Goal). is_provided it) same ∙ is) in
                 absurd (let e : true ≡ false = sym first ∙ (neither (is_delete_first one.decision) (is_create_first one.decision) never).0 in cc)
@@ -197,7 +185,7 @@ module _ (run : Fixed) (real : is_preview run.mode ≡ false) (apart : KeepsApar
       → errand_by seat what ≡ Some errand → is_due_on (known_of run past) errand.op errand.lane ≡ true
   begun_due past seat (Begun ticket lane about) errand may h =
       subst (λ (one : Errand). is_due_on (known_of run past) one.op one.lane ≡ true)
-      (some_same (record { ticket = ticket; seat = seat; lane = lane; op = about }) errand h) may.due
+      (same_Some (record { ticket = ticket; seat = seat; lane = lane; op = about }) errand h) may.due
   begun_due past seat _ errand may h = absurd (let e : None ≡ Some errand = h in cc)
 
   -- an operation on a goal was begun
@@ -225,7 +213,7 @@ module _ (run : Fixed) (real : is_preview run.mode ≡ false) (apart : KeepsApar
   recording_free : (past : List Event) (seat : ℕ) (what : What) (number : ℕ) → IsOrderly run past
       → MayHappen (known_of run past) seat what → recorded_by past what ≡ Some number → IsFree run past number
   recording_free past seat (Kept kept fresh) number orderly may h =
-      subst (λ (n : ℕ). IsFree run past n) (some_same kept number h) (free_kept past orderly kept may.due)
+      subst (λ (n : ℕ). IsFree run past n) (same_Some kept number h) (free_kept past orderly kept may.due)
   recording_free past seat (Answered ticket reply) number orderly may h =
       let answered = answered_errand past ticket reply number h in
       free-begun past answered.0.op number orderly

@@ -4,7 +4,10 @@ use Rattle.std.proofs.lemmas.Slice.Eq.{bytes_eq-Decides}
 use Rattle.std.specs.Bool.{beq}
 use Rattle.std.specs.List.{enumerate_from, list_any}
 use Rattle.std.specs.Option.{option_or}
-use Rattle.pl_state.specs.Chain.{some_passes}
+use Rattle.std.proofs.lemmas.Option.{same_Some}
+use Rattle.pl_lemmas.proofs.Numbers.{same_number}
+use Rattle.pl_lemmas.specs.Words.{first_some, has_number, is_row, numbered, some_passes}
+use Rattle.pl_lemmas.proofs.Options.{passing}
 use Rattle.pl_state.specs.Kinds.{is_of_provider, is_provider_goal, is_provider_row}
 use Rattle.pl_state.specs.References.{has_urn}
 use Rattle.pl_state.specs.declared.entry.Entry.{Entry}
@@ -14,21 +17,19 @@ use Rattle.pl_model.specs.declared.decided.Decided.{Decided}
 use Rattle.pl_model.specs.declared.fixed.Fixed.{Fixed}
 use Rattle.pl_model.specs.Run.{rows_of}
 use Rattle.pl_model.specs.Tickets.{answers_of}
-use Rattle.pl_model.specs.Claims.{chain_of_goal, claim_by, claim_for, first_some, is_chained, is_claimed, is_row, may_claim, numbered}
+use Rattle.pl_model.specs.Claims.{chain_of_goal, claim_by, claim_for, is_chained, is_claimed, may_claim}
 use Rattle.pl_model.specs.Decisions.{turn_of}
 use Rattle.pl_model.specs.Due.{holds_urn, urn_is_free}
 use Rattle.pl_model.specs.Entries.{old_row, row_now}
 use Rattle.pl_model.specs.History.{known_of}
 use Rattle.pl_model.specs.Known.{Known, decided_goal, goal_at, is_recorded}
 use Rattle.pl_model.specs.Legal.{IsOrderly}
-use Rattle.pl_model.specs.Recording.{has_number}
 use Rattle.pl_model.specs.Rows.{is_left, is_marked, is_replaced, row_at, row_numbers}
+use Rattle.pl_model_stays.proofs.Claiming.{WasMade, decided_parts, found_at, passing_number, was-made}
+use Rattle.pl_model_stays.proofs.Growing.{Grown, numbered_below, numbered_grown}
 use Rattle.pl_model_laws.specs.Apart.{KeepsApart}
-use Rattle.pl_model_laws.proofs.Claiming.{WasMade, decided_parts, found_at, passing_number, was-made}
-use Rattle.pl_model_laws.proofs.Growing.{Grown, numbered_below, numbered_grown, same_number}
 use Rattle.pl_model_laws.proofs.Leaving.{claim-gone, neither, row_of_run, same_row, unmarked-urn}
 use Rattle.pl_model_laws.proofs.Removing.{grown_behind}
-use Rattle.pl_model_laws.proofs.Staying.{passes_some, some_same}
 use Rattle.pl_model_laws.proofs.TakenOver.{all-decided}
 
 -- ---- what is found
@@ -61,7 +62,7 @@ none_found {X = X} test n (first ∷ others) h k x at = by (test (n, first)) ref
         → (j : ℕ) → slice_get (first ∷ others) j ≡ Some x → test (n + j, x) ≡ false
     by true is h rest j at = absurd (let e : Some (n, first) ≡ None = h in cc)
     by false is h rest zero at =
-        let same : first ≡ x = some_same first x at in
+        let same : first ≡ x = same_Some first x at in
         let here : n ≡ n + 0 = omega arith in
         subst (λ (m : ℕ). test (m, x) ≡ false) here (subst (λ (y : X). test (n, y) ≡ false) same is)
     by false is h rest (suc j) at =
@@ -117,7 +118,7 @@ claimed_named run before goal urn row h = by (find (may_claim run before goal ur
         let far : found.0 ≡ 0 + k = place.2 in
         let same : k ≡ found.0 = omega arith in (
           found.1,
-          subst (λ (n : ℕ). slice_get (rows_of run) n ≡ Some found.1) (same ∙ some_same found.0 row h) place.3,
+          subst (λ (n : ℕ). slice_get (rows_of run) n ≡ Some found.1) (same ∙ same_Some found.0 row h) place.3,
           rules.0,
           (bytes_eq-Decides found.1.urn urn).0 rules.1,
         )
@@ -187,7 +188,7 @@ module _ (run : Fixed) (history : List Event) (n : ℕ) (goal : Goal) (one : Dec
       made = was-made run history n one decided
 
       own : made.goal ≡ goal
-      own = some_same made.goal goal (sym made.stands ∙ stands)
+      own = same_Some made.goal goal (sym made.stands ∙ stands)
 
       based : slice_get (rows_of run) row ≡ Some entry
       based = row_of_run run history row (Some entry) at
@@ -221,10 +222,10 @@ module _ (run : Fixed) (history : List Event) (n : ℕ) (goal : Goal) (one : Dec
   none_holds : (row : ℕ) → holds_urn known goal one row ≡ true → ⊥
   none_holds row h =
       let parts = holds_parts (is_left known row) (is_marked known row) (is_row one.claim row) _ h in
-      let now = passes_some (λ (entry : Entry). bytes_eq entry.urn goal.urn) (old_row known row) parts.3 in
+      let now = passing (λ (entry : Entry). bytes_eq entry.urn goal.urn) (old_row known row) parts.3 in
       let base = made_from (row_now known row) (row_at known row) now.0 now.1 in
       let was = unmarked-urn run history row base.0 apart (all-decided run history orderly) base.1 parts.0 parts.1 in
-      let same : was.0 ≡ now.0 = some_same was.0 now.0 (sym was.1 ∙ now.1) in
+      let same : was.0 ≡ now.0 = same_Some was.0 now.0 (sym was.1 ∙ now.1) in
       let urns : base.0.urn ≡ goal.urn =
       sym was.2 ∙ ap (λ (it : Entry). it.urn) same ∙ (bytes_eq-Decides now.0.urn goal.urn).0 now.2 in
       let e : true ≡ false = sym (claims_own row base.0 base.1 parts.0 parts.1 urns) ∙ parts.2 in

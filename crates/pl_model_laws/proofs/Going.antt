@@ -1,9 +1,14 @@
 -- What is to go is so until it went, and so is what goes along with it.
-use Rattle.std.proofs.Common.{◌≡◌, ℕ, zero, suc, ◌+◌, ◌<◌, Bool, true, false, not, ◌&&◌, ◌||◌, List, [], ◌∷◌, ◌++◌, if◌then◌else◌, length, map, nat_lt, option_and_then, slice_get, take, Option, Some, None, is_none, refl, sym, ◌∙◌, ap, subst, arith, inl}
+use Rattle.std.proofs.Common.{◌≡◌, ℕ, zero, suc, ◌+◌, ◌<◌, Bool, true, false, not, ◌&&◌, ◌||◌, List, [], ◌∷◌, if◌then◌else◌, length, map, nat_lt, option_and_then, slice_get, take, Option, Some, None, is_none, refl, sym, ◌∙◌, ap, subst, arith, inl}
 use Rattle.std.proofs.lemmas.Bool.Decides.{nat_tests}
-use Rattle.std.proofs.lemmas.List.Folds.{list_any-append}
 use Rattle.std.specs.List.{list_all, list_any, range_with_len}
-use Rattle.pl_state.specs.Chain.{deleter_row_of, last_from, last_of_urn, or_else_place, refers_to, some_passes}
+use Rattle.std.proofs.Math.Bool.{or-true}
+use Rattle.std.proofs.lemmas.Option.{same_Some}
+use Rattle.pl_lemmas.proofs.Truth.{and_left, and_right, or_first}
+use Rattle.pl_lemmas.proofs.Lists.{any_back, numbered_passes}
+use Rattle.pl_lemmas.specs.Words.{has_number, is_row, some_passes}
+use Rattle.pl_lemmas.proofs.Options.{row_is}
+use Rattle.pl_state.specs.Chain.{deleter_row_of, last_from, last_of_urn, or_else_place, refers_to}
 use Rattle.pl_state.specs.References.{has_urn, meets, names_row, optional_refs, property_urns}
 use Rattle.pl_state.specs.declared.entry.Entry.{Entry}
 use Rattle.pl_state.specs.declared.fault.Missing.{Missing}
@@ -11,30 +16,29 @@ use Rattle.pl_state.specs.declared.fault.Missing.TheVariants.{DeletedWith, Depen
 use Rattle.pl_state.specs.declared.goal.Goal.{Goal}
 use Rattle.pl_events.specs.declared.event.Event.{Event}
 use Rattle.pl_decide.specs.Permits.{is_wanted}
+use Rattle.pl_decide.specs.Limited.{is_create_first, is_delete_first}
 use Rattle.pl_model.specs.declared.decided.Decided.{Decided}
 use Rattle.pl_model.specs.declared.fixed.Fixed.{Fixed}
 use Rattle.pl_model.specs.Run.{is_destroy, is_preview, is_refresh, rows_of}
-use Rattle.pl_decide.specs.Limited.{is_create_first, is_delete_first}
-use Rattle.pl_model.specs.Claims.{chain_of_claim, chain_of_goal, claimer_of, is_claimed, is_row}
+use Rattle.pl_model.specs.Claims.{chain_of_claim, chain_of_goal, claimer_of, is_claimed}
 use Rattle.pl_model.specs.History.{known_of}
 use Rattle.pl_model.specs.Known.{Known, all_recorded, decided_goal, host_ended, is_over, is_recorded}
 use Rattle.pl_model.specs.Legal.{IsOrderly}
 use Rattle.pl_model.specs.Problems.{lacks_provider}
-use Rattle.pl_model.specs.Recording.{has_number, recorded_of, removed_of}
+use Rattle.pl_model.specs.Recording.{recorded_of, removed_of}
 use Rattle.pl_model.specs.Rows.{goes_now, goes_with, is_deletable, is_deleted_first, is_doomed, is_left, is_marked, is_replaced, is_taken_out, is_taken_over, is_target, row_at, stands_beside, takes_along, was_removed}
+use Rattle.pl_model_stays.proofs.Claiming.{passing_number, where_found}
+use Rattle.pl_model_stays.proofs.Growing.{run_of}
+use Rattle.pl_model_stays.proofs.Once.{history_of, not_true, left_parts, both}
+use Rattle.pl_model_stays.proofs.Staying.{recorded-as}
 use Rattle.pl_model_laws.specs.Apart.{KeepsApart}
 use Rattle.pl_model_laws.proofs.Along.{along-so, along-there, along-told}
 use Rattle.pl_model_laws.proofs.Chains.{chain-closed}
-use Rattle.pl_model_laws.proofs.Claiming.{claim_is, numbered_passes, passing_number, where_found}
 use Rattle.pl_model_laws.proofs.Dependents.{gone_last}
 use Rattle.pl_model_laws.proofs.Freed.{free-recorded}
-use Rattle.pl_model_laws.proofs.Growing.{or_true, run_of}
-use Rattle.pl_model_laws.proofs.Leaving.{claimed-once, claimer_is, claimer_parts, claimer_passes, known-apart, left_made, left_parts}
-use Rattle.pl_model_laws.proofs.Once.{and_left, and_right, history_of, not_true}
-use Rattle.pl_model_laws.proofs.Removing.{Later, claimed-then, first_of_two, never-marked, over_recorded, recorded-gone}
-use Rattle.pl_model_laws.proofs.Staying.{recorded-as, some_same}
+use Rattle.pl_model_laws.proofs.Leaving.{claimed-once, claimer_is, claimer_parts, claimer_passes, known-apart, left_made}
+use Rattle.pl_model_laws.proofs.Removing.{Later, claimed-then, never-marked, over_recorded, recorded-gone}
 use Rattle.pl_model_laws.proofs.TakenOver.{Taker, all-decided, taker}
-use Rattle.pl_model_laws.proofs.Working.{both}
 
 -- ---- the row that another one is deleted with
 
@@ -54,7 +58,7 @@ last_passes test place (row ∷ rows) found h =
         let far : found ≡ suc place + k = its.2 in
         (suc k, its.1, omega arith, its.3, its.4)
     by None true is h rest =
-        let same : place ≡ found = some_same place found h in
+        let same : place ≡ found = same_Some place found h in
         (0, row, omega arith, refl, is)
     by None false is h rest = absurd (let e : None ≡ Some found = h in cc)
 
@@ -68,10 +72,6 @@ taken_at (suc n) (suc k) (first ∷ rows) row h =
     let low : k < n = rest.0 in
     (omega arith, rest.1)
 
-any_behind : {X : Type 0} (test : X → Bool) (xs ys : List X) → list_any test ys ≡ true → list_any test (xs ++ ys) ≡ true
-any_behind test xs ys h =
-    list_any-append test xs ys ∙ ap (λ (b : Bool). list_any test xs || b) h ∙ or_true (list_any test xs)
-
 -- whether another row meets a reference
 abbrev met_by : Entry → Missing → Bool
 met_by other reference = meets reference other
@@ -79,10 +79,10 @@ met_by other reference = meets reference other
 -- a row refers to the one that it is deleted with
 names_deleter : (row other : Entry) (named : List ℕ) → row.deleted_with ≡ Some named → has_urn named other ≡ true → names_row row other ≡ true
 names_deleter row other named is has =
-    any_behind (met_by other) (optional_refs Parent row.parent) _
-    (any_behind (met_by other) (optional_refs Provider row.provider) _
-    (any_behind (met_by other) (map Dependency row.dependencies) _
-    (any_behind (met_by other) (map Dependency (property_urns row.property_dependencies)) _ last)))
+    any_back (met_by other) (optional_refs Parent row.parent) _
+    (any_back (met_by other) (optional_refs Provider row.provider) _
+    (any_back (met_by other) (map Dependency row.dependencies) _
+    (any_back (met_by other) (map Dependency (property_urns row.property_dependencies)) _ last)))
   where
     last : list_any (met_by other) (optional_refs DeletedWith row.deleted_with) ≡ true
     last = rw is (rw has refl)
@@ -216,7 +216,7 @@ module _ (run : Fixed) (history : List Event) (orderly : IsOrderly run history)
       where
         goes : (b : Bool) → is_claimed told_then.decided row ≡ b → (not b || is_marked told_then row) ≡ true
             → (not (is_claimed known.decided row) || is_marked known row) ≡ true
-        goes true is h = rw (marked_later row h) (or_true (not (is_claimed known.decided row)))
+        goes true is h = rw (marked_later row h) (or-true (not (is_claimed known.decided row)))
         goes false is h = rw (unclaimed_later is) refl
 
         goes_later : goes_now told_then row ≡ true → goes_now known row ≡ true
@@ -253,7 +253,7 @@ module _ (run : Fixed) (history : List Event) (orderly : IsOrderly run history)
             let some : list_any (takes_along known row) known.decided ≡ true =
             numbered_passes (takes_along known row) known.decided found.0 found.1 (later.decisions found.0 found.1 found.2)
             (takes_later found.1 found.3) in
-            rw some (or_true (is_over known))
+            rw some (or-true (is_over known))
 
   -- ---- what a row that is left refers to
 
@@ -281,8 +281,8 @@ module _ (run : Fixed) (history : List Event) (orderly : IsOrderly run history)
         way first =
             let listed : has_number (recorded_of history) own.number ≡ true = sym (recorded-as run history own.number) ∙ own.recorded in
             let free = free-recorded run real apart history own.number orderly listed in
-            let same : free.one ≡ own.one = some_same free.one own.one (sym free.decided ∙ own.decided) in
-            let claim : own.one.claim ≡ Some earlier = claim_is own.one.claim earlier own.claims in
+            let same : free.one ≡ own.one = same_Some free.one own.one (sym free.decided ∙ own.decided) in
+            let claim : own.one.claim ≡ Some earlier = row_is own.one.claim earlier own.claims in
             let low : row < length (rows_of run) = below in
             let chained : has_number (chain_of_goal run own.one) row ≡ true =
             ap (λ (b : Bool). has_number (if b then chain_of_claim run own.one.claim else []) row) first
@@ -305,11 +305,11 @@ module _ (run : Fixed) (history : List Event) (orderly : IsOrderly run history)
             let number : n ≡ own.number =
             claimed-once run past n own.number it own.one earlier there at is own.claims in
             let same : it ≡ own.one =
-            some_same it own.one (sym (subst (λ (k : ℕ). decided_goal told_then k ≡ Some it) number there) ∙ at) in
+            same_Some it own.one (sym (subst (λ (k : ℕ). decided_goal told_then k ≡ Some it) number there) ∙ at) in
             way (ap (λ (other : Decided). is_delete_first other.decision) (sym same) ∙ first)
         taken n it there false is first h =
             let free : not (is_claimed told_then.decided earlier) ≡ true =
-            first_of_two (not (is_claimed told_then.decided earlier)) (is_marked told_then earlier)
+            or_first (not (is_claimed told_then.decided earlier)) (is_marked told_then earlier)
             (along-told told_then earlier (and_right (has_number (chain_of_goal told_then.run it) earlier) _ h)) unmarked in
             let e : true ≡ false = sym claimed ∙ not_true (is_claimed told_then.decided earlier) free in cc
 

@@ -4,6 +4,12 @@ use Rattle.std.proofs.lemmas.Bool.Decides.{nat_tests}
 use Rattle.std.proofs.lemmas.Slice.Eq.{bytes_eq-Decides}
 use Rattle.std.specs.List.{cons_option, enumerate_from, filter_map, list_any}
 use Rattle.std.specs.Str.{bytes_eq}
+use Rattle.std.proofs.Math.Bool.{or-true}
+use Rattle.std.proofs.lemmas.Option.{same_Some}
+use Rattle.pl_lemmas.proofs.Truth.{and_left, and_right}
+use Rattle.pl_lemmas.proofs.Options.{mapped_some, then_some, row_is}
+use Rattle.pl_lemmas.proofs.Numbers.{equal_numbers}
+use Rattle.pl_lemmas.proofs.Each.{Each, Pairwise, IsAmong, each_weaker, each_reverse}
 use Rattle.pl_state.specs.declared.entry.Entry.{Entry}
 use Rattle.pl_state.specs.declared.pending.Pending.{Pending}
 use Rattle.pl_events.specs.declared.event.Event.{Event}
@@ -19,7 +25,7 @@ use Rattle.pl_model.specs.declared.errand.Errand.{Errand}
 use Rattle.pl_model.specs.declared.fixed.Fixed.{Fixed}
 use Rattle.pl_model.specs.declared.work.Work.TheVariants.{Send as to_send}
 use Rattle.pl_model.specs.Run.{imports_of, is_refresh}
-use Rattle.pl_model.specs.Claims.{is_row}
+use Rattle.pl_lemmas.specs.Words.{is_row}
 use Rattle.pl_model.specs.Due.{is_due_on, is_imported, is_ready_on, passes_limit}
 use Rattle.pl_model.specs.History.{known_of}
 use Rattle.pl_model.specs.Known.{Known}
@@ -28,15 +34,15 @@ use Rattle.pl_model.specs.Problems.{creates_urn, is_creating, pending_create}
 use Rattle.pl_model.specs.Rows.{pending_at}
 use Rattle.pl_model.specs.State.{found_by, imported_by, imported_entries, pending_read}
 use Rattle.pl_model.specs.Tickets.{answers_of, begun_of, closes, errand_at, errand_of, is_closed, same_op}
+use Rattle.pl_model_stays.proofs.Among.{any_found, find_among}
+use Rattle.pl_model_stays.proofs.Claiming.{found_at}
+use Rattle.pl_model_stays.proofs.Growing.{run_of}
+use Rattle.pl_model_stays.proofs.Once.{begun_at_most_once, history_of, unclosed}
+use Rattle.pl_model_stays.proofs.Pairs.{pairs-mapped, pairs-reverse, pairs-with}
+use Rattle.pl_model_stays.proofs.Recorded.{asked_on}
+use Rattle.pl_model_stays.proofs.Standing.{answers_as, closed_with}
+use Rattle.pl_model_stays.proofs.Staying.{same_op_self}
 use Rattle.pl_model_laws.specs.Apart.{AreApart}
-use Rattle.pl_model_laws.proofs.Among.{IsAmong, any_found, find_among}
-use Rattle.pl_model_laws.proofs.Claiming.{claim_is, found_at}
-use Rattle.pl_model_laws.proofs.Growing.{equal_numbers, or_true, run_of}
-use Rattle.pl_model_laws.proofs.Once.{and_left, and_right, begun_at_most_once, history_of, unclosed}
-use Rattle.pl_model_laws.proofs.Pairs.{Each, Pairwise, each-reverse, each-weaker, pairs-mapped, pairs-reverse, pairs-with}
-use Rattle.pl_model_laws.proofs.Recorded.{asked_on}
-use Rattle.pl_model_laws.proofs.Standing.{answers_as, closed_with}
-use Rattle.pl_model_laws.proofs.Staying.{same_op_self, some_same}
 
 -- ---- lists
 
@@ -87,18 +93,8 @@ among_more (Some y) xs x there = inr there
 
 -- what reads a pending operation
 pub read_of : (about : Op) (at : ℕ) → pending_read about ≡ Some at → about ≡ op.Read (subject.Pending at)
-read_of (op.Read (subject.Pending n)) at h = ap (λ (k : ℕ). op.Read (subject.Pending k)) (some_same n at h)
+read_of (op.Read (subject.Pending n)) at h = ap (λ (k : ℕ). op.Read (subject.Pending k)) (same_Some n at h)
 read_of _ at h = absurd (let e : None ≡ Some at = h in cc)
-
--- what is mapped was there
-some_map : {X Y : Type 0} (f : X → Y) (o : Option X) (y : Y) → option_map f o ≡ Some y → (x : X) × (o ≡ Some x) × (f x ≡ y)
-some_map f (Some x) y h = (x, refl, some_same (f x) y h)
-some_map f None y h = absurd (let e : None ≡ Some y = h in cc)
-
--- what comes of something came of what is there
-some_then : {X Y : Type 0} (f : X → Option Y) (o : Option X) (y : Y) → option_and_then f o ≡ Some y → (x : X) × (o ≡ Some x) × (f x ≡ Some y)
-some_then f (Some x) y h = (x, refl, h)
-some_then f None y h = absurd (let e : None ≡ Some y = h in cc)
 
 -- a pending operation that the command names by the first creation of a URN
 abbrev pub IsNamedImport : Fixed → ℕ → Type 0
@@ -110,15 +106,15 @@ first_creation : (run : Fixed) (at : ℕ) (pending : Pending) → IsNamedImport 
 first_creation run at pending named stands =
     let pair = any_found (λ (one : List ℕ × List ℕ). is_row (pending_create run one.1) at) (imports_of run.mode) named in
     let urn : List ℕ = pair.0.1 in
-    let created : pending_create run urn ≡ Some at = claim_is (pending_create run urn) at pair.2 in
-    let found = some_map (λ (one : ℕ × Pending). one.0) (find (λ (one : ℕ × Pending). creates_urn urn one.1) (enumerate_from 0 run.base.pending)) at created in
+    let created : pending_create run urn ≡ Some at = row_is (pending_create run urn) at pair.2 in
+    let found = mapped_some (λ (one : ℕ × Pending). one.0) (find (λ (one : ℕ × Pending). creates_urn urn one.1) (enumerate_from 0 run.base.pending)) at created in
     let place = found_at (λ (one : ℕ × Pending). creates_urn urn one.1) 0 run.base.pending found.0 found.1 in
     let k : ℕ = place.0 in
     let there : found.0.0 ≡ 0 + k = place.2 in
     let own : found.0.0 ≡ at = found.2 in
     let same : k ≡ at = omega arith in
     let entry : found.0.1 ≡ pending =
-    some_same found.0.1 pending (sym place.3 ∙ ap (λ (n : ℕ). slice_get run.base.pending n) same ∙ stands) in
+    same_Some found.0.1 pending (sym place.3 ∙ ap (λ (n : ℕ). slice_get run.base.pending n) same ∙ stands) in
     let test : bytes_eq found.0.1.entry.urn urn ≡ true = and_right (is_creating found.0.1.kind) _ place.1 in
     let urns : found.0.1.entry.urn ≡ urn = (bytes_eq-Decides found.0.1.entry.urn urn).0 test in
     ap (λ (name : List ℕ). pending_create run name) (sym (ap (λ (one : Pending). one.entry.urn) entry) ∙ urns) ∙ created
@@ -138,14 +134,14 @@ shut_more event past about it = record {
   errand = it.errand;
   begun = among_more (errand_of event) (begun_of past) it.errand it.begun;
   does = it.does;
-  shut = ap (λ (b : Bool). closes it.errand.ticket event.what || b) it.shut ∙ or_true (closes it.errand.ticket event.what);
+  shut = ap (λ (b : Bool). closes it.errand.ticket event.what || b) it.shut ∙ or-true (closes it.errand.ticket event.what);
 }
 
 -- what was shut before is so
 still_shut : (seat : ℕ) (past : List Event) (what : What) → Each (λ (closed : Closed). IsShut past closed.op) (answers_of past)
     → Each (λ (closed : Closed). IsShut (record { seat = seat; what = what } ∷ past) closed.op) (answers_of past)
 still_shut seat past what before =
-    each-weaker (λ (closed : Closed). IsShut past closed.op)
+    each_weaker (λ (closed : Closed). IsShut past closed.op)
     (λ (closed : Closed). IsShut (record { seat = seat; what = what } ∷ past) closed.op)
     (λ closed it. shut_more (record { seat = seat; what = what }) past closed.op it) (answers_of past) before
 
@@ -184,7 +180,7 @@ ReadApart one other = (first second : ℕ) → pending_read one.op ≡ Some firs
 
 -- an entry keeps the URN of the pending operation that it was found by
 found_urn : (entry row : Entry) (o : Option Reply) → found_by entry o ≡ Some row → row.urn ≡ entry.urn
-found_urn entry row (Some (reply.Found id inputs outputs)) h = sym (ap (λ (one : Entry). one.urn) (some_same _ row h))
+found_urn entry row (Some (reply.Found id inputs outputs)) h = sym (ap (λ (one : Entry). one.urn) (same_Some _ row h))
 found_urn entry row _ h = absurd (let e : None ≡ Some row = h in cc)
 
 -- what an answer imports
@@ -198,9 +194,9 @@ record Imports (known : Known) (about : Op) (row : Entry) : Type 0 where
 -- it is of a pending operation that the answer read
 imports_of_answer : (known : Known) (closed : Closed) (row : Entry) → imported_by known closed ≡ Some row → Imports known closed.op row
 imports_of_answer known closed row h =
-    let number = some_then (λ at. option_and_then (λ (pending : Pending). found_by pending.entry (Some closed.reply)) (pending_at known at))
+    let number = then_some (λ at. option_and_then (λ (pending : Pending). found_by pending.entry (Some closed.reply)) (pending_at known at))
     (pending_read closed.op) row h in
-    let pending = some_then (λ (one : Pending). found_by one.entry (Some closed.reply)) (pending_at known number.0) row number.2 in
+    let pending = then_some (λ (one : Pending). found_by one.entry (Some closed.reply)) (pending_at known number.0) row number.2 in
     record {
       at = number.0;
       reads = number.1;
@@ -263,7 +259,7 @@ module _ (run : Fixed) where
           → Pairwise ReadApart (cons_option (option_map (closed_with said) (option_map (λ (errand : Errand). errand.op) o)) (answers_of past))
       by None is = before
       by (Some errand) is = (
-        each-weaker (λ (closed : Closed). IsShut past closed.op) (ReadApart (record { op = errand.op; reply = said }))
+        each_weaker (λ (closed : Closed). IsShut past closed.op) (ReadApart (record { op = errand.op; reply = said }))
             (λ closed shut. unread seat past ticket said errand orderly may is closed shut) (answers_of past) (each_shut past),
         before,
       )
@@ -283,7 +279,7 @@ module _ (run : Fixed) where
 
     -- each answered reading is of such a pending operation
     answers_named : Each ReadsNamed (answers_of history)
-    answers_named = each-weaker (λ (closed : Closed). IsShut history closed.op) ReadsNamed
+    answers_named = each_weaker (λ (closed : Closed). IsShut history closed.op) ReadsNamed
         (λ closed shut at reads. begun_named history shut.errand at orderly (shut.does ∙ read_of closed.op at reads) shut.begun)
         (answers_of history) (each_shut history)
 
@@ -304,7 +300,7 @@ module _ (run : Fixed) where
         let first = first_of one.op y a (named a.at a.reads) in
         let second = first_of other.op z b (also b.at b.reads) in
         apart a.at b.at a.reads b.reads
-        (some_same a.at b.at (sym first ∙ ap (λ (urn : List ℕ). pending_create run urn) same ∙ second))
+        (same_Some a.at b.at (sym first ∙ ap (λ (urn : List ℕ). pending_create run urn) same ∙ second))
 
     -- the answers are those of the history
     answered_so : known.answers ≡ answers_of history
@@ -317,6 +313,6 @@ module _ (run : Fixed) where
         (pairs-mapped (imported_by known) AreApart (reverse (answers_of history))
         (pairs-with ReadApart (λ one other. (y z : Entry) → imported_by known one ≡ Some y → imported_by known other ≡ Some z → AreApart y z)
         ReadsNamed (λ one other named also apart. import_apart one other named also apart) (reverse (answers_of history))
-        (each-reverse ReadsNamed (answers_of history) answers_named)
+        (each_reverse ReadsNamed (answers_of history) answers_named)
         (pairs-reverse ReadApart (λ one other apart second first also reads same. apart first second reads also (sym same))
         (answers_of history) (answers_apart history orderly))))

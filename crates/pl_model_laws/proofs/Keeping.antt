@@ -1,40 +1,39 @@
 -- Two entries of a state that are to stay have URNs of their own.
-use Rattle.std.proofs.Common.{◌≡◌, ◌≢◌, ℕ, ◌<◌, ◌≤◌, ◌==◌, Bool, true, false, List, [], ◌∷◌, ◌++◌, filter, get_or, if◌then◌else◌, length, option_map, reverse, slice_get, Option, Some, None, is_some, refl, sym, ◌∙◌, ap, subst}
-use Rattle.std.proofs.lemmas.Option.{get_or_from_slice_get, slice_get_within}
+use Rattle.std.proofs.Common.{◌≡◌, ◌≢◌, ℕ, ◌<◌, ◌≤◌, ◌==◌, Bool, true, false, List, [], ◌∷◌, ◌++◌, filter, get_or, if◌then◌else◌, length, reverse, slice_get, Option, Some, is_some, refl, sym, ◌∙◌, ap, subst}
+use Rattle.std.proofs.lemmas.Option.{get_or_from_slice_get, slice_get_within, same_Some}
+use Rattle.std.proofs.Math.Bool.{or-true}
+use Rattle.pl_lemmas.proofs.Options.{mapped_some}
+use Rattle.pl_lemmas.proofs.Numbers.{same_number}
+use Rattle.pl_lemmas.proofs.Each.{Each, Pairwise, each_weaker, each_reverse}
 use Rattle.pl_state.specs.declared.entry.Entry.{Entry}
 use Rattle.pl_state.specs.declared.goal.Goal.{Goal}
 use Rattle.pl_events.specs.declared.event.Event.{Event}
 use Rattle.pl_model.specs.declared.decided.Decided.{Decided}
 use Rattle.pl_model.specs.declared.fixed.Fixed.{Fixed}
 use Rattle.pl_model.specs.Run.{HasNames, is_preview, is_refresh, rows_of}
-use Rattle.pl_model.specs.Claims.{is_row}
+use Rattle.pl_lemmas.specs.Words.{has_number, is_row}
 use Rattle.pl_model.specs.Entries.{new_entries, old_entries, old_row, recorded_entry, row_now}
 use Rattle.pl_model.specs.History.{known_of}
 use Rattle.pl_model.specs.Known.{Known, decided_goal, goal_at, is_recorded}
 use Rattle.pl_model.specs.Legal.{IsOrderly}
-use Rattle.pl_model.specs.Recording.{has_number, recorded_of}
+use Rattle.pl_model.specs.Recording.{recorded_of}
 use Rattle.pl_model.specs.Rows.{is_left, is_marked, left_rows, row_at, row_numbers}
 use Rattle.pl_model.specs.State.{refreshed_entries, state_of}
+use Rattle.pl_model_stays.proofs.Growing.{run_of}
+use Rattle.pl_model_stays.proofs.Once.{history_of}
+use Rattle.pl_model_stays.proofs.Pairs.{each-mapped, each-passes, once_apart, pairs-all, pairs-append, pairs-filter, pairs-mapped, pairs-reverse, pairs-with, range_rises}
+use Rattle.pl_model_stays.proofs.Recorded.{recorded-held, recorded_at_most_once}
+use Rattle.pl_model_stays.proofs.Standing.{entry-there, recording-there}
 use Rattle.pl_model_laws.specs.Apart.{AreApart, KeepsApart}
 use Rattle.pl_model_laws.proofs.Distinct.{goals-apart}
 use Rattle.pl_model_laws.proofs.Freed.{free-recorded}
-use Rattle.pl_model_laws.proofs.Growing.{or_true, run_of, same_number}
 use Rattle.pl_model_laws.proofs.Leaving.{claim-gone, unmarked-urn}
-use Rattle.pl_model_laws.proofs.Once.{history_of}
-use Rattle.pl_model_laws.proofs.Pairs.{Each, Pairwise, each-mapped, each-passes, each-reverse, each-weaker, once_apart, pairs-all, pairs-append, pairs-filter, pairs-mapped, pairs-reverse, pairs-with, range_rises}
-use Rattle.pl_model_laws.proofs.Recorded.{recorded-held, recorded_at_most_once}
-use Rattle.pl_model_laws.proofs.Standing.{entry-there, recording-there}
-use Rattle.pl_model_laws.proofs.Staying.{some_same}
-
-some_map : {X Y : Type 0} (f : X → Y) (o : Option X) (y : Y) → option_map f o ≡ Some y → (x : X) × (o ≡ Some x) × (f x ≡ y)
-some_map f (Some x) y h = (x, refl, some_same (f x) y h)
-some_map f None y h = absurd (let e : None ≡ Some y = h in cc)
 
 -- each number of a list stands in it
 each_there : (all numbers : List ℕ) → ((n : ℕ) → has_number numbers n ≡ true → has_number all n ≡ true) → Each (λ n. has_number all n ≡ true) numbers
 each_there all [] within = tt
 each_there all (n ∷ numbers) within =
-    (within n (rw (same_number n) refl), each_there all numbers (λ m there. within m (rw there (or_true (n == m)))))
+    (within n (rw (same_number n) refl), each_there all numbers (λ m there. within m (rw there (or-true (n == m)))))
 
 module _ (run : Fixed) (history : List Event)
     (names : HasNames run) (real : is_preview run.mode ≡ false)
@@ -58,14 +57,14 @@ module _ (run : Fixed) (history : List Event)
       let there = recorded-held run history number orderly recorded in
       let found = recording-there run history number there.0 there.1 recorded in
       let whole = entry-there known number there.0 there.1 found.0 there.2.stands there.2.decided found.1 in
-      let same : whole.0 ≡ row = some_same whole.0 row (sym whole.1 ∙ is) in
+      let same : whole.0 ≡ row = same_Some whole.0 row (sym whole.1 ∙ is) in
       record { goal = there.0; stands = there.2.stands; urn = sym (ap (λ (one : Entry). one.urn) same) ∙ whole.2.urn }
 
   abbrev numbers : List ℕ
   numbers = reverse (recorded_of known.history)
 
   recorded_each : Each (λ n. is_recorded known n ≡ true) numbers
-  recorded_each = each-reverse (λ n. is_recorded known n ≡ true) (recorded_of known.history)
+  recorded_each = each_reverse (λ n. is_recorded known n ≡ true) (recorded_of known.history)
       (each_there (recorded_of known.history) (recorded_of known.history) (λ n there. there))
 
   numbers_apart : Pairwise (λ m n. m ≢ n) numbers
@@ -103,10 +102,10 @@ module _ (run : Fixed) (history : List Event)
 
   stood : (number : ℕ) (row : Entry) → is_left known number ≡ true → old_row known number ≡ Some row → row.doomed ≡ false → StoodSo number row
   stood number row left is stays =
-      let was = some_map (row_now known number) (row_at known number) row is in
+      let was = mapped_some (row_now known number) (row_at known number) row is in
       let unmarked : is_marked known number ≡ false = ap (λ (one : Entry). one.doomed) was.2 ∙ stays in
       let now = unmarked-urn run history number was.0 apart all_decided was.1 left unmarked in
-      let same : now.0 ≡ row = some_same now.0 row (sym now.1 ∙ is) in
+      let same : now.0 ≡ row = same_Some now.0 row (sym now.1 ∙ is) in
       record {
         entry = was.0;
         stands = sym (ap (λ (fixed : Fixed). slice_get (rows_of fixed) number) (run_of run history)) ∙ was.1;
@@ -156,15 +155,15 @@ module _ (run : Fixed) (history : List Event)
       let listed : has_number (recorded_of history) number ≡ true =
       subst (λ (events : List Event). has_number (recorded_of events) number ≡ true) (history_of run history) recorded in
       let free = free-recorded run real apart history number orderly listed in
-      let goal_same : free.goal ≡ a.goal = some_same free.goal a.goal (sym free.stands ∙ a.stands) in
+      let goal_same : free.goal ≡ a.goal = same_Some free.goal a.goal (sym free.stands ∙ a.stands) in
       free.none row b.entry b.stands left b.unmarked (unclaimed number row free.one recorded free.decided left b.unmarked)
       (sym b.urn ∙ sym same ∙ a.urn ∙ sym (ap (λ (goal : Goal). goal.urn) goal_same))
 
   cross : Each (λ x. Each (AreApart x) (old_entries known)) (new_entries known)
   cross = each-mapped (recorded_entry known) (λ x. Each (AreApart x) (old_entries known)) numbers
-      (each-weaker (λ n. is_recorded known n ≡ true) (λ n. (y : Entry) → recorded_entry known n ≡ Some y → Each (AreApart y) (old_entries known))
+      (each_weaker (λ n. is_recorded known n ≡ true) (λ n. (y : Entry) → recorded_entry known n ≡ Some y → Each (AreApart y) (old_entries known))
       (λ n recorded y is. each-mapped (old_row known) (AreApart y) (left_rows known)
-      (each-weaker (λ r. is_left known r ≡ true) (λ r. (z : Entry) → old_row known r ≡ Some z → AreApart y z)
+      (each_weaker (λ r. is_left known r ≡ true) (λ r. (z : Entry) → old_row known r ≡ Some z → AreApart y z)
       (λ r left z too. apart_from_old n y r z recorded is left too) (left_rows known) left_each))
       numbers recorded_each)
 

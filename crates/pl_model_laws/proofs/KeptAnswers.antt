@@ -4,7 +4,9 @@ use Rattle.std.proofs.lemmas.List.{append-nil, reverse-append}
 use Rattle.std.proofs.lemmas.List.Elements.{filter_map-append}
 use Rattle.std.specs.List.{cons_option}
 use Rattle.std.specs.Option.{option_or}
-use Rattle.pl_state.specs.Chain.{some_passes}
+use Rattle.pl_lemmas.proofs.Truth.{neither_left}
+use Rattle.pl_lemmas.proofs.Numbers.{equal_numbers}
+use Rattle.pl_lemmas.specs.Words.{first_some, has_number, only_if, some_passes}
 use Rattle.pl_state.specs.declared.entry.Entry.{Entry}
 use Rattle.pl_state.specs.declared.pending.Pending.{Pending}
 use Rattle.pl_events.specs.declared.event.Event.{Event}
@@ -24,8 +26,8 @@ use Rattle.pl_model.specs.declared.heard.Fate.TheVariants.{Accepted as accepted,
 use Rattle.pl_model.specs.declared.heard.Heard.{Heard}
 use Rattle.pl_model.specs.Run.{Pairs}
 use Rattle.pl_model.specs.Tickets.{answers_of, closed_by, reply_if, reply_to, same_op}
-use Rattle.pl_model.specs.Recording.{cleared_in, cleared_of, has_number, is_gone, is_removed, is_thing, only_if, recorded_by, recorded_by_reply, recorded_of, removed_by, removed_by_reply, removed_of}
-use Rattle.pl_model.specs.Claims.{first_some, goal_number}
+use Rattle.pl_model.specs.Recording.{cleared_in, cleared_of, is_gone, is_removed, is_thing, recorded_by, recorded_by_reply, recorded_of, removed_by, removed_by_reply, removed_of}
+use Rattle.pl_model.specs.Claims.{goal_number}
 use Rattle.pl_model.specs.Due.{is_recorded_about}
 use Rattle.pl_model.specs.Entries.{told_by, told_outputs}
 use Rattle.pl_model.specs.History.{asked_after, known_of}
@@ -35,10 +37,9 @@ use Rattle.pl_model.specs.Requests.{asked_by, fate_of}
 use Rattle.pl_model.specs.Rows.{pending_at}
 use Rattle.pl_model.specs.Saves.{changes_state, closes_saved, is_accepted, is_covered, tells_saved}
 use Rattle.pl_model.specs.State.{found_by, imported_by, imported_entries, is_cleared, is_found, opened_by, pending_for, row_read}
-use Rattle.pl_model_laws.proofs.Growing.{equal_numbers, run_of}
-use Rattle.pl_model_laws.proofs.Once.{equal_ops, history_of}
-use Rattle.pl_model_laws.proofs.Standing.{answers_as}
-use Rattle.pl_model_laws.proofs.Staying.{or_left}
+use Rattle.pl_model_stays.proofs.Growing.{run_of}
+use Rattle.pl_model_stays.proofs.Once.{equal_ops, history_of}
+use Rattle.pl_model_stays.proofs.Standing.{answers_as}
 
 -- ---- a reply that need not be saved
 
@@ -59,7 +60,7 @@ module _ (said : Reply) where
   reply_records (op.Create on) h = absurd (let e : true ≡ false = h in cc)
   reply_records (op.Update on) h = absurd (let e : true ≡ false = h in cc)
   reply_records (op.Delete on) h = absurd (let e : true ≡ false = h in cc)
-  reply_records (op.Read on) h = rw (or_left (is_thing said) (reads_row (op.Read on) && is_gone said) h) refl
+  reply_records (op.Read on) h = rw (neither_left (is_thing said) (reads_row (op.Read on) && is_gone said) h) refl
   reply_records (op.CheckConfig on) h = only_none (is_thing said)
   reply_records (op.Configure provider) h = only_none (is_thing said)
   reply_records (op.Check on) h = only_none (is_thing said)
@@ -108,7 +109,7 @@ module _ (known : Known) where
       by : (o : Option Pending)
           → option_and_then (λ (pending : Pending). found_by pending.entry (Some said)) o ≡ None
       by None = refl
-      by (Some pending) = nothing_found pending.entry said (or_left (is_thing said) _ h)
+      by (Some pending) = nothing_found pending.entry said (neither_left (is_thing said) _ h)
   reply_imports (op.Read (subject.Goal number)) said h = refl
   reply_imports (op.Read (subject.Row row)) said h = refl
   reply_imports _ said h = refl
@@ -228,7 +229,7 @@ module _ (run : Fixed) (event : Event) (past : List Event)
       → row_read entry (reply_to after.answers (op.Read (subject.Row row))) ≡ row_read entry (reply_to before.answers (op.Read (subject.Row row)))
   row-read-same entry row =
       seen (row_read entry) (op.Read (subject.Row row))
-      (λ said h. row_unread entry said (or_left (is_thing said) (is_gone said) h) (or_behind (is_thing said) (is_gone said) h))
+      (λ said h. row_unread entry said (neither_left (is_thing said) (is_gone said) h) (or_behind (is_thing said) (is_gone said) h))
     where
       or_behind : (a b : Bool) → (a || b) ≡ false → b ≡ false
       or_behind true b h = absurd (let e : true ≡ false = h in cc)
@@ -238,7 +239,7 @@ module _ (run : Fixed) (event : Event) (past : List Event)
   pub found-same : (at : ℕ)
       → is_found (reply_to after.answers (op.Read (subject.Pending at))) ≡ is_found (reply_to before.answers (op.Read (subject.Pending at)))
   found-same at =
-      seen is_found (op.Read (subject.Pending at)) (λ said h. not_found said (or_left (is_thing said) false h))
+      seen is_found (op.Read (subject.Pending at)) (λ said h. not_found said (neither_left (is_thing said) false h))
 
   pub cleared-row-same : (at : ℕ) → is_cleared after at ≡ is_cleared before at
   cleared-row-same at =

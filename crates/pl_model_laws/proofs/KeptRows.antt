@@ -1,22 +1,27 @@
 -- The entries stay with an event that need not be saved: those of recorded goals, and the rows that are left.
 use Rattle.std.proofs.Common.{◌≡◌, ℕ, ◌==◌, Bool, true, false, not, ◌&&◌, ◌||◌, if◌then◌else◌, nat_lt, List, [], ◌∷◌, ◌++◌, filter, filter_map, length, map, reverse, Option, Some, None, refl, sym, ◌∙◌, ap, subst, option_map, option_and_then, bytes_eq}
 use Rattle.std.proofs.Math.Path.{fun_ext}
-use Rattle.std.specs.List.{cons_option, enumerate_from, fold, range_with_len}
+use Rattle.std.specs.List.{enumerate_from, fold, range_with_len}
+use Rattle.std.proofs.Math.Bool.{or-true}
+use Rattle.std.proofs.lemmas.Option.{same_Some}
+use Rattle.pl_lemmas.proofs.Numbers.{same_number}
+use Rattle.pl_lemmas.proofs.Each.{Each, each_reverse, found_same}
 use Rattle.pl_refresh.specs.Refreshed.{pruned}
 use Rattle.pl_refresh.specs.declared.row_now.RowNow.{RowNow}
-use Rattle.pl_state.specs.Chain.{some_passes}
+use Rattle.pl_lemmas.specs.Words.{has_number, is_row, some_passes}
+use Rattle.pl_lemmas.proofs.Lists.{numbered_passes}
 use Rattle.pl_state.specs.declared.entry.Entry.{Entry}
 use Rattle.pl_state.specs.declared.goal.Goal.{Goal}
 use Rattle.pl_events.specs.declared.event.Event.{Event}
 use Rattle.pl_events.specs.declared.operation.Op.TheVariants as op
 use Rattle.pl_events.specs.declared.operation.Subject.TheVariants as subject
+use Rattle.pl_decide.specs.Limited.{is_create_first, is_delete_first}
 use Rattle.pl_model.specs.declared.decided.Decided.{Decided}
 use Rattle.pl_model.specs.declared.fixed.Fixed.{Fixed}
 use Rattle.pl_model.specs.Run.{Pairs, is_refresh, rows_of}
 use Rattle.pl_model.specs.Tickets.{reply_to}
-use Rattle.pl_model.specs.Recording.{has_number, recorded_of}
-use Rattle.pl_decide.specs.Limited.{is_create_first, is_delete_first}
-use Rattle.pl_model.specs.Claims.{claimer_of, is_row}
+use Rattle.pl_model.specs.Recording.{recorded_of}
+use Rattle.pl_model.specs.Claims.{claimer_of}
 use Rattle.pl_model.specs.Entries.{Turning, entry_of, new_entries, old_entries, old_row, recorded_entry, told_outputs, turned_entry, turning_of, turnings, with_outputs}
 use Rattle.pl_model.specs.History.{known_of}
 use Rattle.pl_model.specs.Known.{Known, claim_row, decided_goal, goal_at, is_recorded}
@@ -24,15 +29,14 @@ use Rattle.pl_model.specs.Legal.{IsOrderly}
 use Rattle.pl_model.specs.Rows.{is_deleted_first, is_held, is_left, is_marked, is_replaced, is_taken_out, is_taken_over, is_to_be_made, left_rows, recorded_claimer, row_at, row_numbers, stands_beside, was_removed}
 use Rattle.pl_model.specs.Saves.{changes_state}
 use Rattle.pl_model.specs.State.{entries_now, imported_entries, refreshed_entries, row_read, rows_read}
-use Rattle.pl_model_laws.proofs.Claiming.{numbered_passes, passing_number}
-use Rattle.pl_model_laws.proofs.Growing.{decisions-stay, goals-stay, or_true, run_of, same_number}
+use Rattle.pl_model_stays.proofs.Claiming.{passing_number}
+use Rattle.pl_model_stays.proofs.Growing.{decisions-stay, goals-stay, run_of}
+use Rattle.pl_model_stays.proofs.KeptEntries.{claim-row-stays, entries-stay}
+use Rattle.pl_model_stays.proofs.Once.{history_of}
+use Rattle.pl_model_stays.proofs.Recorded.{recorded-held}
+use Rattle.pl_model_stays.proofs.Staying.{recorded-as}
 use Rattle.pl_model_laws.proofs.KeptAnswers.{imported-same, recorded-same, removed-same, row-read-same, told-same}
-use Rattle.pl_model_laws.proofs.KeptEntries.{claim-row-stays, entries-stay}
 use Rattle.pl_model_laws.proofs.Leaving.{claimer_found, claimer_is, claimer_parts, claimer_passes, claimer_stays, known-apart}
-use Rattle.pl_model_laws.proofs.Once.{history_of}
-use Rattle.pl_model_laws.proofs.Pairs.{Each, each-reverse}
-use Rattle.pl_model_laws.proofs.Recorded.{recorded-held}
-use Rattle.pl_model_laws.proofs.Staying.{recorded-as, some_same}
 use Rattle.pl_model_laws.proofs.TakenOut.{first-before}
 
 -- ---- lists and tests
@@ -42,15 +46,8 @@ each_listed : (P : ℕ → Type 0) (numbers : List ℕ) → ((n : ℕ) → has_n
 each_listed P [] h = tt
 each_listed P (first ∷ others) h = (
   h first (ap (λ (b : Bool). b || has_number others first) (same_number first)),
-  each_listed P others (λ n among. h n (ap (λ (b : Bool). (first == n) || b) among ∙ or_true (first == n))),
+  each_listed P others (λ n among. h n (ap (λ (b : Bool). (first == n) || b) among ∙ or-true (first == n))),
 )
-
--- what is found the same way for each of a list is found for all of it
-found_same : {X Y : Type 0} (f g : X → Option Y) (xs : List X) → Each (λ x. f x ≡ g x) xs → filter_map f xs ≡ filter_map g xs
-found_same f g [] h = refl
-found_same {Y = Y} f g (x ∷ xs) h =
-    ap (λ (o : Option Y). cons_option o (filter_map f xs)) h.0
-    ∙ ap (λ (ys : List Y). cons_option (g x) ys) (found_same f g xs h.1)
 
 -- two tests that pass together are the same
 same_test : (a b : Bool) → (a ≡ true → b ≡ true) → (b ≡ true → a ≡ true) → a ≡ b
@@ -78,7 +75,7 @@ module _ (run : Fixed) (event : Event) (past : List Event) (orderly : IsOrderly 
   each_recorded found same =
       ap (λ (numbers : List ℕ). filter_map (found after) (reverse numbers)) (recorded-same run event past unsaved)
       ∙ found_same (found after) (found before) (reverse (recorded_of past))
-      (each-reverse (λ number. found after number ≡ found before number) (recorded_of past)
+      (each_reverse (λ number. found after number ≡ found before number) (recorded_of past)
       (each_listed (λ number. found after number ≡ found before number) (recorded_of past)
       (λ number among. same number (recorded-as run past number ∙ among))))
       ∙ ap (λ (events : List Event). filter_map (found before) (reverse (recorded_of events))) (sym (history_of run past))
@@ -145,7 +142,7 @@ module _ (run : Fixed) (event : Event) (past : List Event) (orderly : IsOrderly 
       let found = claimer_found after.decided row number parts.1 in
       let there = recorded-held run past number orderly.0 recorded in
       let stays : decided_goal after number ≡ Some there.1 = decisions-stay run event past number there.1 there.2.decided in
-      let same : found.0 ≡ there.1 = some_same found.0 there.1 (sym found.1 ∙ stays) in
+      let same : found.0 ≡ there.1 = same_Some found.0 there.1 (sym found.1 ∙ stays) in
       let claims : is_row there.1.claim row ≡ true = subst (λ (one : Decided). is_row one.claim row ≡ true) same found.2 in
       let claimer : claimer_of before.decided row ≡ Some number =
       claimer_is run before.decided number row there.1 (known-apart run past) there.2.decided claims in

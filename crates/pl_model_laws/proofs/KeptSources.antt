@@ -1,10 +1,16 @@
 -- What is to be done has the provider that it is sent to, where no problem stands.
-use Rattle.std.proofs.Common.{◌≡◌, ℕ, ◌==◌, Bool, true, false, not, ◌&&◌, ◌||◌, if◌then◌else◌, List, [], ◌∷◌, slice_get, Option, Some, None, is_none, is_some, refl, sym, ◌∙◌, ap, subst, inl, inr, option_map, option_and_then}
+use Rattle.std.proofs.Common.{◌≡◌, ℕ, ◌==◌, Bool, true, false, not, ◌&&◌, ◌||◌, if◌then◌else◌, List, [], slice_get, Option, Some, None, is_none, is_some, refl, sym, ◌∙◌, ap, subst, option_map, option_and_then}
 use Rattle.std.specs.List.{list_any}
 use Rattle.std.specs.Option.{option_or}
+use Rattle.pl_lemmas.proofs.Truth.{and_left, and_right}
+use Rattle.pl_lemmas.proofs.Options.{some_there, mapped_none, passing, row_is, list_none}
+use Rattle.pl_lemmas.proofs.Numbers.{equal_numbers}
+use Rattle.pl_lemmas.proofs.Lists.{append_none}
+use Rattle.pl_lemmas.proofs.Each.{IsAmong, among_each, each_at}
 use Rattle.pl_reference.specs.Reference.{reference_text}
 use Rattle.pl_reference.specs.declared.reference.ProviderRef.{ProviderRef}
-use Rattle.pl_state.specs.Chain.{last_provider, provider_row_of, some_passes}
+use Rattle.pl_lemmas.specs.Words.{first_some, is_row, numbered, some_passes}
+use Rattle.pl_state.specs.Chain.{last_provider, provider_row_of}
 use Rattle.pl_state.specs.Kinds.{is_provided, is_provider_goal}
 use Rattle.pl_sound.specs.Sound.{IsSound}
 use Rattle.pl_state.specs.declared.entry.Entry.{Entry}
@@ -20,12 +26,11 @@ use Rattle.pl_events.specs.declared.operation.Source.TheVariants as source
 use Rattle.pl_events.specs.declared.operation.Subject.TheVariants as subject
 use Rattle.pl_decide.specs.declared.problem.Problem.{Problem}
 use Rattle.pl_decide.specs.declared.problem.Problem.TheVariants as problem
+use Rattle.pl_decide.specs.Limited.{is_delete_first}
 use Rattle.pl_model.specs.declared.fixed.Fixed.{Fixed}
 use Rattle.pl_model.specs.declared.heard.Heard.{Heard}
 use Rattle.pl_model.specs.Run.{HasNames, imports_of, is_preview, is_refresh, rows_of}
 use Rattle.pl_model.specs.Tickets.{same_op}
-use Rattle.pl_decide.specs.Limited.{is_delete_first}
-use Rattle.pl_model.specs.Claims.{first_some, is_row, numbered}
 use Rattle.pl_model.specs.Decisions.{Turn, checked_at, is_provider_unknown, needs_check, number_at, wants_diff}
 use Rattle.pl_model.specs.Due.{asks_check, asks_diff, at_turn, for_decided, is_asked, is_carried_out, is_imported, is_invoke, is_placed, is_removable, is_unsent, op_of_decision, op_of_goal, provider_recorded, sends_goal, source_of_op, way_is_free}
 use Rattle.pl_model.specs.History.{known_of}
@@ -33,43 +38,31 @@ use Rattle.pl_model.specs.Known.{Known, asked_at, goal_at, has_problem, is_over,
 use Rattle.pl_model.specs.Legal.{IsOrderly}
 use Rattle.pl_model.specs.Problems.{import_problem, imported_entry, is_to_read, lacks_provider, names_none, pending_create, refresh_problems, unmet_provider, unread_row}
 use Rattle.pl_model.specs.Rows.{goes_with, has_dependents, is_deletable, is_doomed, is_sent, pending_at, row_at, source_of_goal, source_of_pending, source_of_provider, source_of_row, takes_along, was_removed}
+use Rattle.pl_model_stays.proofs.Among.{any_found}
+use Rattle.pl_model_stays.proofs.Claiming.{passing_number}
+use Rattle.pl_model_stays.proofs.Growing.{run_of}
+use Rattle.pl_model_stays.proofs.KeptDue.{imported_there}
+use Rattle.pl_model_stays.proofs.Once.{not_true}
+use Rattle.pl_model_stays.proofs.Recorded.{found}
+use Rattle.pl_model_stays.proofs.Staying.{or_none}
+use Rattle.pl_model_stays.proofs.Subjects.{turn_goal}
+use Rattle.pl_model_stays.proofs.Listing.{removable-parts}
 use Rattle.pl_model_laws.specs.Kept.{SentSourced}
-use Rattle.pl_model_laws.proofs.Among.{IsAmong, any_found}
-use Rattle.pl_model_laws.proofs.Calm.{append_none, first_none, option_list_none, option_map_none}
-use Rattle.pl_model_laws.proofs.Claiming.{claim_is, passing_number}
+use Rattle.pl_model_laws.proofs.Calm.{first_none}
 use Rattle.pl_model_laws.proofs.Ending.{end-provided}
 use Rattle.pl_model_laws.proofs.Going.{IsDoomed, doomed-parts}
-use Rattle.pl_model_laws.proofs.Growing.{equal_numbers, run_of}
-use Rattle.pl_model_laws.proofs.KeptDue.{imported_there}
-use Rattle.pl_model_laws.proofs.Once.{and_left, and_right, not_true}
-use Rattle.pl_model_laws.proofs.Pairs.{Each}
 use Rattle.pl_model_laws.proofs.Places.{provided-named}
 use Rattle.pl_model_laws.proofs.Quieting.{provider_there}
-use Rattle.pl_model_laws.proofs.Recorded.{found}
-use Rattle.pl_model_laws.proofs.Removing.{removable-parts}
-use Rattle.pl_model_laws.proofs.Rereading.{each_at, has_provider, none_missing, or_first_none, start_calm}
+use Rattle.pl_model_laws.proofs.Rereading.{has_provider, none_missing, or_first_none, start_calm}
 use Rattle.pl_model_laws.proofs.Sounding.{sound-apart}
-use Rattle.pl_model_laws.proofs.Standing.{some_there}
-use Rattle.pl_model_laws.proofs.Staying.{passes_some}
-use Rattle.pl_model_laws.proofs.Subjects.{turn_goal}
 use Rattle.pl_model_laws.proofs.Troubles.{lacking-trouble}
 
 -- ---- tests
-
--- what each of a list has, one of it has
-each_is : {X : Type 0} (P : X → Type 0) (xs : List X) (x : X) → Each P xs → IsAmong x xs → P x
-each_is P [] x all among = absurd among
-each_is P (y ∷ ys) x all (inl same) = subst P (sym same) all.0
-each_is P (y ∷ ys) x all (inr among) = each_is P ys x all.1 among
 
 -- what is there only under a test passes it
 under_test : (test : Op → Bool) (b : Bool) (o : Option Op) → some_passes test (if b then o else None) ≡ true → b ≡ true
 under_test test true o h = refl
 under_test test false o h = absurd (let e : false ≡ true = h in cc)
-
-or_second_none : {X : Type 0} (first second : Option X) → option_or first second ≡ None → second ≡ None
-or_second_none None second h = h
-or_second_none (Some x) second h = absurd (let e : Some x ≡ None = h in cc)
 
 -- an entry that names its provider is not one that names none
 names_one : (entry : Entry) → names_none entry ≡ None → is_none entry.provider ≡ false
@@ -111,11 +104,11 @@ module _ (run : Fixed) (history : List Event) (names : HasNames run) (sound : Is
   turn_source : (number : ℕ) (test : Turn → Bool) → ((turn : Turn) → test turn ≡ true → provider_recorded known turn ≡ true)
       → at_turn known (subject.Goal number) test ≡ true → is_some (source_of_goal known number) ≡ true
   turn_source number test recorded h =
-      let turn = passes_some (λ turn. number_at turn == number && test turn) (next_turn known) h in
+      let turn = passing (λ turn. number_at turn == number && test turn) (next_turn known) h in
       let stands : goal_at known number ≡ Some turn.0.goal =
       subst (λ (n : ℕ). numbered known.goals n ≡ Some turn.0.goal) (equal_numbers (number_at turn.0) number (and_left _ (test turn.0) turn.2))
       (turn_goal known.run known.answers known.goals known.decided turn.0 turn.1) in
-      let provider = passes_some (is_recorded known) turn.0.goal.provider
+      let provider = passing (is_recorded known) turn.0.goal.provider
       (recorded turn.0 (and_right (number_at turn.0 == number) _ turn.2)) in
       goal_source number turn.0.goal stands (ap (λ (o : Option ℕ). is_some o) provider.1)
 
@@ -170,7 +163,7 @@ module _ (run : Fixed) (history : List Event) (names : HasNames run) (sound : Is
   delete_source : (row : ℕ) → (is_removable known row && is_sent known row) ≡ true → is_some (source_of_row known row) ≡ true
   delete_source row h =
       let sent : is_sent known row ≡ true = and_right (is_removable known row) (is_sent known row) h in
-      let it = passes_some (λ entry. is_deletable entry && not entry.pending_replacement) (row_at known row)
+      let it = passing (λ entry. is_deletable entry && not entry.pending_replacement) (row_at known row)
       (and_left _ (not (goes_with known row)) sent) in
       let provided : (is_sent known row && some_passes (λ (entry : Entry). is_none entry.provider) (row_at known row)) ≡ false =
       deleted_provided row it.0 it.1 (and_left (is_removable known row) (is_sent known row) h) in
@@ -197,11 +190,11 @@ module _ (run : Fixed) (history : List Event) (names : HasNames run) (sound : Is
     none_behind : (unnamed ≡ None) × (first_some (import_problem trouble known.run) (imports_of known.run.mode) ≡ None)
     none_behind =
         let both = append_none _ _ (append_none _ _ none_missed).1 in
-        (option_list_none unnamed both.0, option_list_none _ both.1)
+        (list_none unnamed both.0, list_none _ both.1)
 
     read_source : (row : ℕ) → some_passes is_to_read (row_at known row) ≡ true → is_some (source_of_row known row) ≡ true
     read_source row h =
-        let it = passes_some is_to_read (row_at known row) h in
+        let it = passing is_to_read (row_at known row) h in
         let unread : first_some unread_row (rows_of known.run) ≡ None =
         or_first_none (first_some unread_row (rows_of known.run)) _ none_behind.0 in
         row_source row it.0 it.1
@@ -229,7 +222,7 @@ module _ (run : Fixed) (history : List Event) (names : HasNames run) (sound : Is
         imports =
             ap (λ (o : Option ℕ). option_map (λ (pending : Pending). pending.entry)
             (option_and_then (λ (place : ℕ). slice_get known.run.base.pending place) o))
-            (claim_is (pending_create known.run pair.0.1) at pair.2)
+            (row_is (pending_create known.run pair.0.1) at pair.2)
             ∙ ap (λ (o : Option Pending). option_map (λ (pending : Pending). pending.entry) o) it.1
 
         -- a trouble that no import has, this one has not
@@ -237,25 +230,25 @@ module _ (run : Fixed) (history : List Event) (names : HasNames run) (sound : Is
             → test entry ≡ None
         untroubled test none =
             ap (λ (o : Option Entry). option_and_then test o) (sym imports)
-            ∙ each_is (λ (one : List ℕ × List ℕ). import_problem test known.run one ≡ None) (imports_of known.run.mode) pair.0
+            ∙ among_each (λ (one : List ℕ × List ℕ). import_problem test known.run one ≡ None) (imports_of known.run.mode) pair.0
             (first_none (import_problem test known.run) (imports_of known.run.mode) none) pair.1
 
         provider : (reference : ProviderRef) × (entry.provider ≡ Some reference)
         provider =
             provider_some entry.provider (names_one entry (untroubled names_none
-            (or_second_none (first_some unread_row (rows_of known.run)) _ none_behind.0)))
+            (or_none (first_some unread_row (rows_of known.run)) _ none_behind.0)))
 
         own : (row : ℕ) × (last_provider (Some provider.0) (rows_of known.run) ≡ Some row)
         own =
             some_there (last_provider (Some provider.0) (rows_of known.run))
             (met_row known.run entry provider.0 provider.1
-            (option_map_none problem.UnknownReference (unmet_provider known.run entry) (untroubled trouble none_behind.1)))
+            (mapped_none problem.UnknownReference (unmet_provider known.run entry) (untroubled trouble none_behind.1)))
 
   -- ---- all that is asked
 
   invoked : (request : Request) (about : Option ℕ) → is_invoke known request about ≡ true → is_some about ≡ true
   invoked (Invoke n token args provider version) about h =
-      let it = passes_some (is_recorded known) about
+      let it = passing (is_recorded known) about
       (and_left (some_passes (is_recorded known) about) (not (is_unsent known (Invoke n token args provider version) about)) h) in
       ap (λ (o : Option ℕ). is_some o) it.1
   invoked (Register n told) about h = absurd (let e : false ≡ true = h in cc)
@@ -291,7 +284,7 @@ module _ (run : Fixed) (history : List Event) (names : HasNames run) (sound : Is
       import_source (and_left (is_refresh known.run.mode) (is_imported known at) h) at
       (and_right (is_refresh known.run.mode) (is_imported known at) h)
   asked_source (op.Invoke n) h =
-      let asked = passes_some (λ asked. is_invoke known asked.request asked.about) (asked_at known n) h in
+      let asked = passing (λ asked. is_invoke known asked.request asked.about) (asked_at known n) h in
       let about = some_there asked.0.about (invoked asked.0.request asked.0.about asked.2) in
       ap (λ (o : Option Heard). is_some (option_map source.Goal (option_and_then (λ (one : Heard). one.about) o))) asked.1
       ∙ ap (λ (o : Option ℕ). is_some (option_map source.Goal o)) about.1

@@ -2,7 +2,9 @@
 use Rattle.std.proofs.Common.{◌≡◌, ℕ, ◌==◌, Bool, true, false, not, ◌&&◌, ◌||◌, List, [], ◌∷◌, ◌++◌, filter, map, reverse, Option, Some, None, refl, sym, ◌∙◌, ap, subst, inl, inr, option_map, cond}
 use Rattle.std.proofs.Math.Path.{fun_ext}
 use Rattle.std.specs.List.{cons_option, enumerate_from}
-use Rattle.pl_state.specs.Chain.{some_passes}
+use Rattle.pl_lemmas.proofs.Numbers.{equal_numbers}
+use Rattle.pl_lemmas.proofs.Each.{Each, IsAmong, each_weaker, each_reverse}
+use Rattle.pl_lemmas.specs.Words.{some_passes}
 use Rattle.pl_state.specs.declared.entry.Entry.{Entry}
 use Rattle.pl_state.specs.declared.pending.Pending.{Pending}
 use Rattle.pl_state.specs.declared.snapshot.Snapshot.{Snapshot}
@@ -22,20 +24,14 @@ use Rattle.pl_model.specs.Known.{Known}
 use Rattle.pl_model.specs.Legal.{IsOrderly}
 use Rattle.pl_model.specs.Saves.{changes_state, closes_saved, is_covered}
 use Rattle.pl_model.specs.State.{base_pending, entries_now, is_answered, is_cleared, opened_by, opened_of, own_pending, pending_for, pending_of, state_of, was_answered}
+use Rattle.pl_model_stays.proofs.Growing.{run_of}
+use Rattle.pl_model_stays.proofs.Once.{history_of}
+use Rattle.pl_model_stays.proofs.Ticketing.{errand-own}
 use Rattle.pl_model_laws.specs.Kept.{UnsavedStays}
-use Rattle.pl_model_laws.proofs.Among.{IsAmong}
-use Rattle.pl_model_laws.proofs.Growing.{equal_numbers, run_of}
 use Rattle.pl_model_laws.proofs.KeptAnswers.{answers_none, cleared-row-same, opens_none, with_op}
 use Rattle.pl_model_laws.proofs.KeptRows.{entries-same}
-use Rattle.pl_model_laws.proofs.Once.{history_of}
-use Rattle.pl_model_laws.proofs.Pairs.{Each, each-reverse}
-use Rattle.pl_model_laws.proofs.Ticketing.{errand-own}
 
 -- ---- lists
-
-each_more : {X : Type 0} (P Q : X → Type 0) → ((x : X) → P x → Q x) → (xs : List X) → Each P xs → Each Q xs
-each_more P Q more [] h = tt
-each_more P Q more (x ∷ xs) h = (more x h.0, each_more P Q more xs h.1)
 
 -- tests that say the same of each of a list leave the same of it
 filtered_same : {X : Type 0} (test other : X → Bool) (xs : List X) → Each (λ x. test x ≡ other x) xs → filter test xs ≡ filter other xs
@@ -106,7 +102,7 @@ unfolding opened_of
 each_opened run [] = tt
 each_opened run (event ∷ past) =
     by (opened_by (known_of run past) event.what) refl
-    (each_more (IsOpened past) (IsOpened (event ∷ past)) (opened_later event past) (opened_of run past) (each_opened run past))
+    (each_weaker (IsOpened past) (IsOpened (event ∷ past)) (opened_later event past) (opened_of run past) (each_opened run past))
   where
     by : (o : Option Opened) → opened_by (known_of run past) event.what ≡ o → Each (IsOpened (event ∷ past)) (opened_of run past)
         → Each (IsOpened (event ∷ past)) (cons_option o (opened_of run past))
@@ -160,9 +156,9 @@ module _ (run : Fixed) (event : Event) (past : List Event) (orderly : IsOrderly 
       ∙ ap (λ (all : List Opened). map (λ opened. opened.pending) all)
       (filtered_same (λ opened. not (was_answered (event ∷ past) opened.ticket)) (λ opened. not (was_answered past opened.ticket))
       (reverse (opened_of run past))
-      (each_more (IsOpened past)
+      (each_weaker (IsOpened past)
       (λ opened. not (was_answered (event ∷ past) opened.ticket) ≡ not (was_answered past opened.ticket)) left_open
-      (reverse (opened_of run past)) (each-reverse (IsOpened past) (opened_of run past) (each_opened run past))))
+      (reverse (opened_of run past)) (each_reverse (IsOpened past) (opened_of run past) (each_opened run past))))
 
   base_same : base_pending after ≡ base_pending before
   base_same =

@@ -1,5 +1,5 @@
 -- Which rows are claimed, and which are left.
-use Rattle.std.proofs.Common.{◌≡◌, ℕ, ◌+◌, suc, ◌==◌, ◌<◌, ◌≤◌, Bool, true, false, not, ◌&&◌, ◌||◌, if◌then◌else◌, cond, List, [], ◌∷◌, ◌++◌, length, get_or, reverse, Option, Some, None, is_some, refl, sym, ◌∙◌, ap, subst, inl, inr, ◌⊎◌, arith, bytes_eq, filter_map, find, fold, nat_lt, slice_get, option_map, option_and_then}
+use Rattle.std.proofs.Common.{◌≡◌, ℕ, ◌+◌, suc, ◌==◌, ◌<◌, ◌≤◌, Bool, true, false, not, ◌&&◌, ◌||◌, if◌then◌else◌, cond, List, ◌∷◌, ◌++◌, length, get_or, reverse, Option, Some, None, is_some, refl, sym, ◌∙◌, ap, subst, inl, inr, ◌⊎◌, arith, bytes_eq, filter_map, find, fold, nat_lt, slice_get, option_map, option_and_then, []}
 use Rattle.std.proofs.lemmas.Bool.{cases_lt}
 use Rattle.std.proofs.lemmas.List.{reverse-append}
 use Rattle.std.proofs.lemmas.Option.{get_or_from_slice_get, slice_get_within}
@@ -7,29 +7,33 @@ use Rattle.std.proofs.lemmas.Slice.Eq.{bytes_eq-Decides}
 use Rattle.std.specs.Bool.{beq}
 use Rattle.std.specs.List.{AllByRecursion, cons_option, enumerate_from}
 use Rattle.std.specs.Option.{option_or}
-use Rattle.pl_state.specs.Chain.{some_passes}
+use Rattle.std.proofs.Math.Bool.{or-true}
+use Rattle.pl_lemmas.proofs.Options.{some_there, row_is}
+use Rattle.pl_lemmas.proofs.Numbers.{same_number, equal_numbers}
+use Rattle.pl_lemmas.specs.Words.{first_some, has_number, is_row, numbered, only_if, some_passes}
 use Rattle.pl_state.specs.Kinds.{is_provider_goal, is_provider_row}
 use Rattle.pl_state.specs.References.{has_urn}
 use Rattle.pl_state.specs.declared.entry.Entry.{Entry}
 use Rattle.pl_state.specs.declared.goal.Goal.{Goal}
 use Rattle.pl_state.specs.declared.goal.Diffed.{Diffed}
 use Rattle.pl_events.specs.declared.event.Event.{Event}
+use Rattle.pl_decide.specs.Limited.{is_create_first}
 use Rattle.pl_model.specs.declared.decided.Decided.{Decided}
 use Rattle.pl_model.specs.declared.errand.Closed.{Closed}
 use Rattle.pl_model.specs.declared.fixed.Fixed.{Fixed}
 use Rattle.pl_model.specs.Run.{Pairs, rows_of}
 use Rattle.pl_model.specs.Tickets.{answers_of}
-use Rattle.pl_model.specs.Recording.{has_number, only_if, recorded_of, removed_by, removed_of}
-use Rattle.pl_decide.specs.Limited.{is_create_first}
-use Rattle.pl_model.specs.Claims.{claim_by, claim_for, claimed_row, claimer_of, first_some, is_chained, is_claimed, is_row, may_claim, numbered}
-use Rattle.pl_model.specs.Decisions.{Turn, checked_at, decided_by, decided_next, decided_of, diff_at, number_at, turn_in, turn_of}
+use Rattle.pl_model.specs.Recording.{recorded_of, removed_by, removed_of}
+use Rattle.pl_model.specs.Claims.{claim_by, claim_for, claimed_row, claimer_of, is_chained, is_claimed, may_claim}
+use Rattle.pl_model.specs.Decisions.{checked_at, decided_by, decided_next, decided_of, diff_at, turn_of}
 use Rattle.pl_model.specs.Entries.{Turning, old_row, row_now, turned, turned_entry, turning_of, turnings}
 use Rattle.pl_model.specs.History.{known_of}
-use Rattle.pl_model.specs.Known.{Known, claim_of, claim_row, decided_goal, goal_at, is_recorded, next_turn, turn_of_goal}
+use Rattle.pl_model.specs.Known.{Known, claim_of, claim_row, decided_goal, goal_at, is_recorded}
 use Rattle.pl_model.specs.Rows.{is_left, is_marked, is_replaced, is_taken_out, is_taken_over, recorded_claimer, row_at, stands_beside}
+use Rattle.pl_model_stays.proofs.Growing.{decided_as, decisions-stay, numbered_more, recordings-stay, run_of}
+use Rattle.pl_model_stays.proofs.Once.{history_of, left_parts}
+use Rattle.pl_model_stays.proofs.Standing.{claim-of-decided}
 use Rattle.pl_model_laws.specs.Apart.{AreApart, KeepsApart}
-use Rattle.pl_model_laws.proofs.Growing.{decided_as, decisions-stay, equal_numbers, numbered_below, numbered_more, or_true, other_numbers, recordings-stay, run_of, same_number}
-use Rattle.pl_model_laws.proofs.Once.{history_of}
 
 -- what is never so later was never so before
 pub not_earlier : (later earlier : Bool) → (earlier ≡ true → later ≡ true) → later ≡ false → earlier ≡ false
@@ -42,11 +46,6 @@ neither true b h = absurd (let e : true ≡ false = h in cc)
 neither false b h = (refl, h)
 
 -- ---- what a goal claims
-
--- a claim of a row is of that row
-claim_is : (claim : Option ℕ) (row : ℕ) → is_row claim row ≡ true → claim ≡ Some row
-claim_is None row h = absurd (let e : false ≡ true = h in cc)
-claim_is (Some own) row h = ap (λ (number : ℕ). Some number) (equal_numbers own row h)
 
 -- a row that is not to be deleted
 abbrev pub Unmarked : Fixed → ℕ → Type 0
@@ -150,7 +149,7 @@ next_may : (run : Fixed) (answers : List Closed) (earlier : List Goal) (before :
     → MayClaim run before row
 next_may run answers earlier before goal one row h claims =
     let chosen : claim_for run before goal ≡ Some row =
-    sym (decided_claim run answers earlier before goal one h) ∙ claim_is one.claim row claims in
+    sym (decided_claim run answers earlier before goal one h) ∙ row_is one.claim row claims in
     let found = first_found (claim_by run before goal) (goal.urn ∷ goal.aliases) row chosen in
     claim_may run before goal found.0 row found.1
 
@@ -192,7 +191,7 @@ claimed_of (newest ∷ earlier) number row one h claims = by (length earlier == 
         ap (λ (it : Decided). is_row it.claim row || is_claimed earlier row) same
         ∙ ap (λ (b : Bool). b || is_claimed earlier row) claims
     by false rest h =
-        ap (λ (b : Bool). is_row newest.claim row || b) (rest h claims) ∙ or_true (is_row newest.claim row)
+        ap (λ (b : Bool). is_row newest.claim row || b) (rest h claims) ∙ or-true (is_row newest.claim row)
 
 -- the goal that claims a row is the only one
 pub claimer_is : (run : Fixed) (decided : List Decided) (number row : ℕ) (one : Decided) → ClaimsApart run decided
@@ -279,14 +278,6 @@ claimer_parts known row test h = by (claimer_of known.decided row) refl h
         let rest = at number (is_recorded known number) refl h in
         (number, is, rest.0, rest.1)
 
--- a row that is left is one of the rows, was not taken out and was not taken over
-pub left_parts : (below gone taken : Bool) → (below && not gone && not taken) ≡ true
-    → (below ≡ true) × (gone ≡ false) × (taken ≡ false)
-left_parts true false false h = (refl, refl, refl)
-left_parts true false true h = absurd (let e : false ≡ true = h in cc)
-left_parts true true taken h = absurd (let e : false ≡ true = h in cc)
-left_parts false gone taken h = absurd (let e : false ≡ true = h in cc)
-
 -- and such a row is left
 pub left_made : (below gone taken : Bool) → below ≡ true → gone ≡ false → taken ≡ false → (below && not gone && not taken) ≡ true
 left_made true false false here stays free = refl
@@ -307,7 +298,7 @@ claimed_marked run known number one row apart decided claims recorded left = by 
     by true is =
         ap (λ (b : Bool). some_passes (λ (entry : Entry). entry.doomed) (row_at known row) || b)
         (claimer_passes known row number (stands_beside known) claimer recorded ∙ is)
-        ∙ or_true (some_passes (λ (entry : Entry). entry.doomed) (row_at known row))
+        ∙ or-true (some_passes (λ (entry : Entry). entry.doomed) (row_at known row))
     by false is =
         let parts = left_parts (nat_lt row (length (rows_of known.run))) (is_taken_out known row)
         (is_taken_over known row) left in
@@ -347,7 +338,7 @@ module _ (run : Fixed) (event : Event) (past : List Event) where
     where
       by : (o : Option ℕ) → has_number (cons_option o (removed_of past)) row ≡ true
       by None = h
-      by (Some other) = ap (λ (b : Bool). (other == row) || b) h ∙ or_true (other == row)
+      by (Some other) = ap (λ (b : Bool). (other == row) || b) h ∙ or-true (other == row)
 
   -- nor does it come back in what the history tells
   pub removed_stays : (row : ℕ) → has_number (removed_of before.history) row ≡ true
@@ -415,53 +406,6 @@ claim-unmarked run history number one row entry decided claims at =
     let same : base.0 ≡ entry = cc in
     subst (λ (it : Entry). it.doomed ≡ false) same base.2
 
--- the first goal that is not decided has as many goals before it as are decided
-turn_number : (run : Fixed) (answers : List Closed) (goals : List Goal) (decided : List Decided) (turn : Turn)
-    → turn_in run answers goals decided ≡ Some turn → number_at turn ≡ length decided
-turn_number run answers [] decided turn h = absurd (let e : None ≡ Some turn = h in cc)
-turn_number run answers (goal ∷ earlier) decided turn h =
-    by (length earlier == length decided) refl (turn_number run answers earlier decided turn) h
-  where
-    by : (b : Bool) → (length earlier == length decided) ≡ b
-        → (turn_in run answers earlier decided ≡ Some turn → number_at turn ≡ length decided)
-        → (if b then Some (turn_of run answers earlier decided goal) else turn_in run answers earlier decided) ≡ Some turn
-        → number_at turn ≡ length decided
-    by true is rest h =
-        let e : Some (turn_of run answers earlier decided goal) ≡ Some turn = h in
-        let same : turn_of run answers earlier decided goal ≡ turn = cc in
-        subst (λ (it : Turn). number_at it ≡ length decided) same (equal_numbers (length earlier) (length decided) is)
-    by false is rest h = rest h
-
--- a decided goal is not at its turn
-no_turn : (known : Known) (number : ℕ) (one : Decided) → decided_goal known number ≡ Some one
-    → turn_of_goal known number ≡ None
-no_turn known number one h = by (next_turn known) refl
-  where
-    by : (o : Option Turn) → next_turn known ≡ o
-        → option_and_then (λ (turn : Turn). if number_at turn == number then Some turn else None) o ≡ None
-    by None is = refl
-    by (Some turn) is =
-        let at : number_at turn ≡ length known.decided =
-        turn_number known.run known.answers known.goals known.decided turn is in
-        let low : number < length known.decided = numbered_below known.decided number one h in
-        let less : number < number_at turn = omega arith in
-        ap (λ (b : Bool). if b then Some turn else None) (other_numbers number (number_at turn) less)
-
--- nothing in its place changes nothing
-or_nothing : {X : Type 0} (o : Option X) → option_or o None ≡ o
-or_nothing None = refl
-or_nothing (Some x) = refl
-
--- what a decided goal claims is the claim that is decided
-claim_decided : (known : Known) (number : ℕ) (one : Decided) → decided_goal known number ≡ Some one
-    → claim_of known number ≡ one.claim
-claim_decided known number one h =
-    ap (λ (o : Option Decided). option_or (option_and_then (λ (it : Decided). it.claim) o)
-    (option_and_then (λ (turn : Turn). turn.claim) (turn_of_goal known number))) h
-    ∙ ap (λ (o : Option Turn). option_or one.claim (option_and_then (λ (turn : Turn). turn.claim) o))
-    (no_turn known number one h)
-    ∙ or_nothing one.claim
-
 -- a claimed row has its claim
 claimed_at : (run : Fixed) (claim : Option ℕ) (entry : Entry) → claimed_row run claim ≡ Some entry
     → (row : ℕ) × (claim ≡ Some row) × (slice_get (rows_of run) row ≡ Some entry)
@@ -513,7 +457,7 @@ each_number : (P : ℕ → Type 0) (numbers : List ℕ) → ((n : ℕ) → has_n
 each_number P [] h = tt
 each_number P (first ∷ others) h = (
   h first (ap (λ (b : Bool). b || has_number others first) (same_number first)),
-  each_number P others (λ n is. h n (ap (λ (b : Bool). (first == n) || b) is ∙ or_true (first == n))),
+  each_number P others (λ n is. h n (ap (λ (b : Bool). (first == n) || b) is ∙ or-true (first == n))),
 )
 
 -- of what is found for each of a list
@@ -560,11 +504,6 @@ same_row rows apart i j one other first second stays too same = by (cases_lt i j
     by (inr most) (inl less) = absurd (not_before j i other one second first too stays (sym same) less)
     by (inr most) (inr least) = omega arith
 
--- what is there
-some_there : {X : Type 0} (o : Option X) → is_some o ≡ true → (x : X) × (o ≡ Some x)
-some_there None h = absurd (let e : false ≡ true = h in cc)
-some_there (Some x) h = (x, refl)
-
 module _ (run : Fixed) (history : List Event) (apart : KeepsApart (rows_of run))
     (decided : (m : ℕ) → is_recorded (known_of run history) m ≡ true → is_some (decided_goal (known_of run history) m) ≡ true)
     (row : ℕ) (entry : Entry) (at : row_at (known_of run history) row ≡ Some entry)
@@ -596,7 +535,7 @@ module _ (run : Fixed) (history : List Event) (apart : KeepsApart (rows_of run))
           let one : Decided = there.0 in
           let from = turned_from known number turning h in
           let claim = claimed_at known.run (claim_of known number) from.0 from.1 in
-          let claims : one.claim ≡ Some claim.0 = sym (claim_decided known number there.0 there.1) ∙ claim.1 in
+          let claims : one.claim ≡ Some claim.0 = sym (claim-of-decided known number there.0 there.1) ∙ claim.1 in
           let claimed : is_row one.claim claim.0 ≡ true =
           ap (λ (o : Option ℕ). is_row o claim.0) claims ∙ same_number claim.0 in
           let old : from.0.doomed ≡ false = claim-unmarked run history number there.0 claim.0 from.0 there.1 claimed claim.2 in

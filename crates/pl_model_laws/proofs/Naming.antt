@@ -1,7 +1,10 @@
 -- What a goal of a request refers to are goals before it, and one that is provided for has its provider.
-use Rattle.std.proofs.Common.{◌≡◌, ℕ, ◌<◌, ◌≤◌, Bool, true, false, not, ◌&&◌, cond, if◌then◌else◌, List, [], ◌∷◌, ◌++◌, length, bytes_eq, filter, Option, Some, None, is_none, is_some, Ok, Err, refl, sym, ◌∙◌, ap, subst, arith, option_map, option_and_then}
+use Rattle.std.proofs.Common.{◌≡◌, ℕ, ◌<◌, ◌≤◌, Bool, true, false, not, ◌&&◌, cond, if◌then◌else◌, List, [], ◌∷◌, length, bytes_eq, filter, Option, Some, None, is_none, is_some, Ok, Err, refl, sym, ◌∙◌, ap, subst, arith, option_map, option_and_then}
 use Rattle.std.proofs.lemmas.Slice.Eq.{bytes_eq-Decides}
 use Rattle.std.specs.Option.{option_or}
+use Rattle.pl_lemmas.proofs.Options.{some_there, some_not_none, neither, mapped_none, passing}
+use Rattle.pl_lemmas.proofs.Lists.{append_none}
+use Rattle.pl_lemmas.proofs.Each.{Each, each_weaker}
 use Rattle.pl_urn.specs.Grammar.{IsScope, child_fault, package_of}
 use Rattle.pl_options.specs.GoalOf.{GoalResult, given, goal_of}
 use Rattle.pl_options.specs.Names.{default_name, provider_type}
@@ -17,6 +20,8 @@ use Rattle.pl_events.specs.declared.event.What.{What}
 use Rattle.pl_events.specs.declared.event.What.TheVariants.{Told}
 use Rattle.pl_decide.specs.declared.problem.Problem.{Problem}
 use Rattle.pl_decide.specs.declared.problem.Problem.TheVariants.{BadOption, DuplicateUrn, UnknownReference}
+use Rattle.pl_lemmas.specs.Words.{first_in, option_list}
+use Rattle.pl_state.specs.References.{further_urns}
 use Rattle.pl_model.specs.declared.fixed.Fixed.{Fixed}
 use Rattle.pl_model.specs.declared.heard.Fate.TheVariants.{Halted as halted}
 use Rattle.pl_model.specs.Run.{HasNames}
@@ -24,31 +29,18 @@ use Rattle.pl_model.specs.Claims.{goal_number}
 use Rattle.pl_model.specs.History.{goals_after, known_of}
 use Rattle.pl_model.specs.Known.{Known, has_problem}
 use Rattle.pl_model.specs.Legal.{IsOrderly, MayHappen}
-use Rattle.pl_state.specs.References.{further_urns, option_list}
-use Rattle.pl_model.specs.Requests.{default_goal, default_urn, fate_by, fate_of, first_in, goal_refusal, goals_by, goals_made, has_goal, has_id, invoke_refusal, invoked_version, is_bad_default, is_met, is_met_reference, named_provider, refusal_of, refused_if, result_refusal, token_package, unknown_references, uses_default, with_default, with_goal, with_invoked, with_provider, with_result}
-use Rattle.pl_model_laws.proofs.Distinct.{IsAllowed-from_refusal, IsFree, default_is_provider, names-there, none_left, not_refused, or_none, told-names}
-use Rattle.pl_model_laws.proofs.Growing.{numbered_below}
-use Rattle.pl_model_laws.proofs.Pairs.{Each, each-weaker}
+use Rattle.pl_model.specs.Requests.{default_goal, default_urn, fate_by, fate_of, goal_refusal, goals_by, goals_made, has_goal, has_id, invoke_refusal, invoked_version, is_bad_default, is_met, is_met_reference, named_provider, refusal_of, refused_if, result_refusal, token_package, unknown_references, uses_default, with_default, with_goal, with_invoked, with_provider, with_result}
+use Rattle.pl_model_stays.proofs.Growing.{numbered_below}
+use Rattle.pl_model_stays.proofs.Staying.{not_refused}
+use Rattle.pl_model_laws.proofs.Distinct.{IsAllowed-from_refusal, IsFree, default_is_provider, names-there, none_left, told-names}
 use Rattle.pl_model_laws.proofs.Referring.{number_found}
-use Rattle.pl_model_laws.proofs.Standing.{some_there}
-use Rattle.pl_model_laws.proofs.Staying.{passes_some}
 
 -- ---- lists
-
--- what is made of nothing was nothing
-nothing_made : {X Y : Type 0} (f : X → Y) (o : Option X) → option_map f o ≡ None → o ≡ None
-nothing_made f None h = refl
-nothing_made f (Some x) h = absurd (let e : Some (f x) ≡ None = h in cc)
 
 -- a list without a first has none
 without_first : {X : Type 0} (xs : List X) → first_in xs ≡ None → xs ≡ []
 without_first [] h = refl
 without_first (x ∷ xs) h = absurd (let e : Some x ≡ None = h in cc)
-
--- where two lists in a row have none, neither has
-neither_has : {X : Type 0} (xs ys : List X) → xs ++ ys ≡ [] → (xs ≡ []) × (ys ≡ [])
-neither_has [] ys h = (refl, h)
-neither_has (x ∷ xs) ys h = absurd (let e : x ∷ (xs ++ ys) ≡ [] = h in cc)
 
 -- where none is left that does not pass, each passes
 none_fails : {X : Type 0} (test : X → Bool) (xs : List X) → filter (λ x. not (test x)) xs ≡ [] → Each (λ x. test x ≡ true) xs
@@ -60,11 +52,6 @@ none_fails {X = X} test (x ∷ xs) h = by (test x) refl h (none_fails test xs)
         → (filter (λ (y : X). not (test y)) xs ≡ [] → Each (λ y. test y ≡ true) xs) → Each (λ y. test y ≡ true) (x ∷ xs)
     by true is h rest = (is, rest h)
     by false is h rest = absurd (let e : x ∷ filter (λ (y : X). not (test y)) xs ≡ [] = h in cc)
-
--- what is not missing is there
-there_not : {X : Type 0} (o : Option X) → is_none o ≡ false → (x : X) × (o ≡ Some x)
-there_not None h = absurd (let e : true ≡ false = h in cc)
-there_not (Some x) h = (x, refl)
 
 -- ---- what a goal refers to
 
@@ -160,8 +147,8 @@ named_below known text m h = by (option_and_then reference_in text) h
 -- a provider reference that is met names a goal
 met_named : (known : Known) (text : List ℕ) → is_met_reference known text ≡ true → is_some (named_provider known (Some text)) ≡ true
 met_named known text h =
-    let pair = passes_some (is_met known) (reference_in text) h in
-    let found = passes_some (has_id known pair.0.1) (goal_number known.goals pair.0.0) pair.2 in
+    let pair = passing (is_met known) (reference_in text) h in
+    let found = passing (has_id known pair.0.1) (goal_number known.goals pair.0.0) pair.2 in
     ap (λ (o : Option (List ℕ × List ℕ)).
     is_some (option_and_then (λ (reference : List ℕ × List ℕ). goal_number known.goals reference.0) o)) pair.1
     ∙ ap (λ (o : Option ℕ). is_some o) found.1
@@ -174,15 +161,15 @@ record AreKnown (known : Known) (told : Registration) (goal : Goal) : Type 0 whe
 
 known_references : (known : Known) (told : Registration) (goal : Goal) → goal_refusal known told goal ≡ None → AreKnown known told goal
 known_references known told goal h =
-    let parts = or_none (refused_if (uses_default told goal && is_bad_default (package_of goal.urn) goal.version) (BadOption (BadUrn goal.kind)))
+    let parts = neither (refused_if (uses_default told goal && is_bad_default (package_of goal.urn) goal.version) (BadOption (BadUrn goal.kind)))
     (option_or (option_map UnknownReference (first_in (unknown_references known told goal))) (refused_if (has_goal known goal.urn) (DuplicateUrn goal.urn))) h in
-    let rest = or_none (option_map UnknownReference (first_in (unknown_references known told goal)))
+    let rest = neither (option_map UnknownReference (first_in (unknown_references known told goal)))
     (refused_if (has_goal known goal.urn) (DuplicateUrn goal.urn)) parts.1 in
     let none : unknown_references known told goal ≡ [] =
     without_first (unknown_references known told goal)
-    (nothing_made UnknownReference (first_in (unknown_references known told goal)) rest.0) in
-    let first = neither_has (filter (λ (urn : List ℕ). not (has_goal known urn)) (option_list goal.parent)) _ none in
-    let second = neither_has (filter (λ (text : List ℕ). not (is_met_reference known text)) (option_list (given told.provider))) _ first.1 in
+    (mapped_none UnknownReference (first_in (unknown_references known told goal)) rest.0) in
+    let first = append_none (filter (λ (urn : List ℕ). not (has_goal known urn)) (option_list goal.parent)) _ none in
+    let second = append_none (filter (λ (text : List ℕ). not (is_met_reference known text)) (option_list (given told.provider))) _ first.1 in
     record {
       parents = none_fails (has_goal known) (option_list goal.parent) first.0;
       providers = none_fails (is_met_reference known) (option_list (given told.provider)) second.0;
@@ -198,7 +185,7 @@ module _ (known : Known) (told : Registration) (goal : Goal) (are_known : AreKno
 
   others_below : Each (IsBelow goals n) (further_urns goal)
   others_below =
-      each-weaker (λ (urn : List ℕ). has_goal known urn ≡ true) (IsBelow goals n) below
+      each_weaker (λ (urn : List ℕ). has_goal known urn ≡ true) (IsBelow goals n) below
       (further_urns goal) are_known.others
 
   refers_registered : (own : Option ℕ) → ((m : ℕ) → own ≡ Some m → m < n) → (is_provided goal ≡ true → is_some own ≡ true)
@@ -244,7 +231,7 @@ module _ (known : Known) (in_stack : IsScope known.run.stack) (in_project : IsSc
 
       provides : uses_default told goal ≡ false → is_provided goal ≡ true → is_some (named_provider known (given told.provider)) ≡ true
       provides unused provided =
-          let names = there_not (given told.provider)
+          let names = some_not_none (given told.provider)
           (sym (ap (λ (b : Bool). b && is_none (given told.provider)) provided) ∙ unused) in
           let met : is_met_reference known names.0 ≡ true =
           (subst (λ (o : Option (List ℕ)). Each (λ text. is_met_reference known text ≡ true) (option_list o)) names.1 are_known.providers).0 in

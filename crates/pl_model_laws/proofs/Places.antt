@@ -1,23 +1,23 @@
 -- What a goal refers to has numbers below its own, so it is recorded once all goals below are.
 use Rattle.std.proofs.Common.{◌≡◌, ℕ, ◌<◌, ◌==◌, Bool, true, false, ◌&&◌, if◌then◌else◌, List, [], ◌∷◌, length, Option, Some, None, refl, ◌∙◌, ap, subst}
 use Rattle.std.specs.List.{list_all}
-use Rattle.pl_state.specs.Chain.{some_passes}
+use Rattle.std.proofs.lemmas.Option.{same_Some}
+use Rattle.pl_lemmas.proofs.Options.{some_there}
+use Rattle.pl_lemmas.proofs.Numbers.{equal_numbers}
+use Rattle.pl_lemmas.proofs.Each.{Each, each_weaker}
+use Rattle.pl_lemmas.specs.Words.{none_or, numbered, some_passes}
 use Rattle.pl_state.specs.Kinds.{is_provided}
 use Rattle.pl_state.specs.References.{further_urns}
 use Rattle.pl_state.specs.declared.goal.Goal.{Goal}
 use Rattle.pl_events.specs.declared.event.Event.{Event}
 use Rattle.pl_model.specs.declared.fixed.Fixed.{Fixed}
 use Rattle.pl_model.specs.Run.{HasNames}
-use Rattle.pl_model.specs.Claims.{numbered}
-use Rattle.pl_model.specs.Due.{is_recorded_urn, none_or, references_recorded}
+use Rattle.pl_model.specs.Due.{is_recorded_urn, references_recorded}
 use Rattle.pl_model.specs.History.{known_of}
 use Rattle.pl_model.specs.Known.{Known, goal_at, is_recorded}
 use Rattle.pl_model.specs.Legal.{IsOrderly}
-use Rattle.pl_model_laws.proofs.Distinct.{IsApart, IsFree, apart_of, some_equal}
-use Rattle.pl_model_laws.proofs.Growing.{equal_numbers}
+use Rattle.pl_model_laws.proofs.Distinct.{IsApart, IsFree, apart_of}
 use Rattle.pl_model_laws.proofs.Naming.{AllBelow, IsBelow, RefersBelow, all-below, below_more}
-use Rattle.pl_model_laws.proofs.Pairs.{Each, each-weaker}
-use Rattle.pl_model_laws.proofs.Standing.{some_there}
 
 -- ---- by numbers
 
@@ -27,7 +27,7 @@ refers_more : (newest : Goal) (goals : List Goal) (n : ℕ) (goal : Goal) → Is
 refers_more newest goals n goal free h = record {
   parent = λ urn is. more urn (h.parent urn is);
   provider = h.provider;
-  further = each-weaker (IsBelow goals n) (IsBelow (newest ∷ goals) n) more (further_urns goal) h.further;
+  further = each_weaker (IsBelow goals n) (IsBelow (newest ∷ goals) n) more (further_urns goal) h.further;
   provided = h.provided;
 }
   where
@@ -45,7 +45,7 @@ refers_at (newest ∷ earlier) apart all n goal h = by (length earlier == n) ref
     by true is h rest =
         let own : RefersBelow earlier n newest =
         subst (λ (k : ℕ). RefersBelow earlier k newest) (equal_numbers (length earlier) n is) all.1 in
-        subst (λ (it : Goal). RefersBelow (newest ∷ earlier) n it) (some_equal newest goal h)
+        subst (λ (it : Goal). RefersBelow (newest ∷ earlier) n it) (same_Some newest goal h)
         (refers_more newest earlier n newest apart.1 own)
     by false is h rest = refers_more newest earlier n goal apart.1 (rest h)
 
@@ -79,7 +79,7 @@ module _ (known : Known) (n : ℕ) (goal : Goal) (refers : RefersBelow known.goa
   urns_recorded : (urns : List (List ℕ)) → Each (IsBelow known.goals n) urns → list_all (is_recorded_urn known) urns ≡ true
   urns_recorded urns below =
       all_of_each (is_recorded_urn known) urns
-      (each-weaker (IsBelow known.goals n) (λ (urn : List ℕ). is_recorded_urn known urn ≡ true) urn_recorded urns below)
+      (each_weaker (IsBelow known.goals n) (λ (urn : List ℕ). is_recorded_urn known urn ≡ true) urn_recorded urns below)
 
   parent_recorded : (o : Option (List ℕ)) → ((urn : List ℕ) → o ≡ Some urn → IsBelow known.goals n urn) → none_or (is_recorded_urn known) o ≡ true
   parent_recorded None below = refl

@@ -1,6 +1,9 @@
 -- The provider of each goal is an earlier goal that is a provider.
 use Rattle.std.proofs.Common.{◌≡◌, ℕ, ◌==◌, Bool, true, false, ◌&&◌, if◌then◌else◌, List, [], ◌∷◌, length, Option, Some, None, is_none, Ok, Err, refl, sym, ◌∙◌, ap, subst, option_and_then}
 use Rattle.std.proofs.lemmas.Slice.Eq.{bytes_eq-Decides}
+use Rattle.std.proofs.lemmas.Option.{same_Some}
+use Rattle.pl_lemmas.proofs.Truth.{and_right}
+use Rattle.pl_lemmas.proofs.Each.{Each, each_weaker}
 use Rattle.pl_urn.specs.Grammar.{IsScope, child_fault, package_of, urn_fault}
 use Rattle.pl_options.specs.GoalOf.{GoalResult, given, goal_of}
 use Rattle.pl_options.specs.Names.{default_name, provider_type}
@@ -17,15 +20,14 @@ use Rattle.pl_decide.specs.declared.problem.Problem.{Problem}
 use Rattle.pl_model.specs.declared.fixed.Fixed.{Fixed}
 use Rattle.pl_model.specs.declared.heard.Fate.TheVariants.{Halted as halted}
 use Rattle.pl_model.specs.Run.{HasNames}
-use Rattle.pl_model.specs.Claims.{goal_number, numbered}
+use Rattle.pl_lemmas.specs.Words.{numbered}
+use Rattle.pl_model.specs.Claims.{goal_number}
 use Rattle.pl_model.specs.History.{goals_after, known_of}
 use Rattle.pl_model.specs.Known.{Known, has_problem}
 use Rattle.pl_model.specs.Legal.{IsOrderly, MayHappen}
 use Rattle.pl_model.specs.Requests.{default_goal, default_urn, fate_by, fate_of, goals_by, goals_made, has_goal, invoked_version, is_bad_default, named_provider, refusal_of, result_refusal, uses_default, with_default, with_goal, with_invoked, with_provider, with_result}
-use Rattle.pl_model_laws.proofs.Distinct.{IsAllowed, IsAllowed-from_refusal, default_is_provider, names-there, none_left, some_equal, told-names}
-use Rattle.pl_model_laws.proofs.Growing.{Grown, grown_more, grown_not, numbered_grown}
-use Rattle.pl_model_laws.proofs.Once.{and_right}
-use Rattle.pl_model_laws.proofs.Pairs.{Each, each-weaker}
+use Rattle.pl_model_stays.proofs.Growing.{Grown, grown_more, grown_not, numbered_grown}
+use Rattle.pl_model_laws.proofs.Distinct.{IsAllowed, IsAllowed-from_refusal, default_is_provider, names-there, none_left, told-names}
 use Rattle.pl_model_laws.proofs.Referring.{ProvidersProvide, number_found}
 
 -- the provider of a goal stands among the goals, and is a provider
@@ -42,7 +44,7 @@ provided_more earlier later grown goal h = λ own is.
 all_more : (newest : Goal) (goals : List Goal) → IsProvided (newest ∷ goals) newest → AllProvided goals → AllProvided (newest ∷ goals)
 all_more newest goals own all = (
   own,
-  each-weaker (IsProvided goals) (IsProvided (newest ∷ goals))
+  each_weaker (IsProvided goals) (IsProvided (newest ∷ goals))
       (provided_more goals (newest ∷ goals) (grown_more newest goals goals (grown_not goals))) goals all,
 )
 
@@ -65,7 +67,7 @@ reference_names text pair h = by (is_reference text) refl h
   where
     by : (b : Bool) → is_reference text ≡ b → (if b then Some (before_last_cut text, after_last_cut text) else None) ≡ Some pair → is_of_provider pair.0 ≡ true
     by true is h =
-        subst (λ (one : List ℕ × List ℕ). is_of_provider one.0 ≡ true) (some_equal (before_last_cut text, after_last_cut text) pair h)
+        subst (λ (one : List ℕ × List ℕ). is_of_provider one.0 ≡ true) (same_Some (before_last_cut text, after_last_cut text) pair h)
         (and_right (is_none (urn_fault (before_last_cut text))) (is_of_provider (before_last_cut text))
         (and_right _ (is_provider_urn (before_last_cut text)) (and_right _ _ is)))
     by false is h = absurd (let e : None ≡ Some pair = h in cc)
@@ -162,7 +164,7 @@ each_numbered P [] number goal all h = absurd (let e : None ≡ Some goal = h in
 each_numbered P (newest ∷ earlier) number goal all h = by (length earlier == number) h (each_numbered P earlier number goal all.1)
   where
     by : (b : Bool) → (if b then Some newest else numbered earlier number) ≡ Some goal → (numbered earlier number ≡ Some goal → P goal) → P goal
-    by true h rest = subst (λ (one : Goal). P one) (some_equal newest goal h) all.0
+    by true h rest = subst (λ (one : Goal). P one) (same_Some newest goal h) all.0
     by false h rest = rest h
 
 -- the provider of each goal is a provider
@@ -171,4 +173,4 @@ pub providers-provide : (run : Fixed) (history : List Event) → HasNames run �
 providers-provide run history in_names orderly = λ number own goal other stands names there.
     let found = each_numbered (IsProvided (known_of run history).goals) (known_of run history).goals number goal
     (all_of run history in_names orderly) stands own names in
-    subst (λ (one : Goal). is_provider_goal one ≡ true) (some_equal found.0 other (sym found.1 ∙ there)) found.2
+    subst (λ (one : Goal). is_provider_goal one ≡ true) (same_Some found.0 other (sym found.1 ∙ there)) found.2

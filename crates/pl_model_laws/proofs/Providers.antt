@@ -2,8 +2,12 @@
 use Rattle.std.proofs.Common.{◌≡◌, ℕ, ◌==◌, Bool, true, false, ◌||◌, if◌then◌else◌, List, [], ◌∷◌, Option, Some, None, is_some, refl, sym, ◌∙◌, ap, subst, option_map, option_and_then, not, ◌&&◌, cond, find, is_none}
 use Rattle.std.specs.List.{cons_option, list_any}
 use Rattle.std.specs.Option.{option_or}
+use Rattle.std.proofs.Math.Bool.{and-false}
+use Rattle.pl_lemmas.proofs.Truth.{and_left, and_right, neither_right}
+use Rattle.pl_lemmas.proofs.Options.{or_none, passing, row_is}
+use Rattle.pl_lemmas.proofs.Numbers.{equal_numbers}
 use Rattle.pl_options.specs.Names.{id_text}
-use Rattle.pl_state.specs.Chain.{some_passes}
+use Rattle.pl_lemmas.specs.Words.{has_number, is_row, only_if, some_passes}
 use Rattle.pl_state.specs.Kinds.{is_provided, is_provider_goal}
 use Rattle.pl_state.specs.declared.entry.Entry.{Entry}
 use Rattle.pl_state.specs.declared.goal.Goal.{Goal}
@@ -14,34 +18,29 @@ use Rattle.pl_events.specs.declared.operation.Op.{Op}
 use Rattle.pl_events.specs.declared.operation.Op.TheVariants as op
 use Rattle.pl_events.specs.declared.operation.Subject.TheVariants as subject
 use Rattle.pl_events.specs.declared.reply.Reply.{Reply}
+use Rattle.pl_decide.specs.Limited.{is_refused}
 use Rattle.pl_model.specs.declared.decided.Decided.{Decided}
 use Rattle.pl_model.specs.declared.errand.Errand.{Errand}
 use Rattle.pl_model.specs.declared.fixed.Fixed.{Fixed}
 use Rattle.pl_model.specs.declared.work.Work.TheVariants.{Keep as to_keep, Send as to_send}
 use Rattle.pl_model.specs.Run.{is_preview}
 use Rattle.pl_model.specs.Tickets.{op_at, begun_of, errand_by, same_op, was_begun}
-use Rattle.pl_model.specs.Recording.{has_number, is_thing, goal_of_op, only_if, recorded_by, recorded_by_reply, recorded_of, fresh_by, fresh_of}
-use Rattle.pl_model.specs.Claims.{claimed_row, id_of_row, is_row, kept_provider_id, usable_id}
-use Rattle.pl_decide.specs.Limited.{is_refused}
+use Rattle.pl_model.specs.Recording.{is_thing, goal_of_op, recorded_by, recorded_by_reply, recorded_of, fresh_by, fresh_of}
+use Rattle.pl_model.specs.Claims.{claimed_row, id_of_row, kept_provider_id, usable_id}
 use Rattle.pl_model.specs.Due.{for_decided, has_unknown_provider, is_asked, is_due_on, is_keep_ready, is_lane_of, is_placed, is_reading, is_ready, is_ready_on, is_wanted_op, keeps_goal, op_of_decision, op_of_goal, passes_limit, provider_stands, references_recorded, sends_goal, urn_is_free, way_is_free}
 use Rattle.pl_model.specs.Entries.{Result, recording_of, result_by, result_of_keep}
 use Rattle.pl_model.specs.History.{known_of}
 use Rattle.pl_model.specs.Known.{Known, decided_goal, goal_at, is_recorded, claim_row, has_problem, provider_id}
 use Rattle.pl_model.specs.Legal.{IsOrderly, MayBeKept, MayHappen, needs_fresh}
-use Rattle.pl_model_laws.proofs.Growing.{equal_numbers, decisions-stay, goals-stay, run_of}
-use Rattle.pl_model_laws.proofs.Once.{and_left, and_right, history_of, not_true}
-use Rattle.pl_model_laws.proofs.Standing.{IsOnly, KeepsClaim, claim-of-decided, closed_with, given_in, id_there, keep_has_claim, keep_id, only_there, or_none, passing, unrecorded-gives}
+use Rattle.pl_model_stays.proofs.Growing.{decisions-stay, goals-stay, run_of}
+use Rattle.pl_model_stays.proofs.Once.{history_of, not_true}
+use Rattle.pl_model_stays.proofs.Standing.{IsOnly, KeepsClaim, claim-of-decided, closed_with, given_in, id_there, keep_has_claim, keep_id, only_there, unrecorded-gives}
 
 -- ---- no operation is sent for a provider
 
--- nothing that is false passes
-and_false : (a : Bool) → (a && false) ≡ false
-and_false true = refl
-and_false false = refl
-
 -- a provider has no provider
 not_provided : (goal : Goal) → is_provider_goal goal ≡ true → is_provided goal ≡ false
-not_provided goal provider = ap (λ (b : Bool). goal.custom && not b) provider ∙ and_false goal.custom
+not_provided goal provider = ap (λ (b : Bool). goal.custom && not b) provider ∙ and-false goal.custom
 
 -- a provider needs no operation
 needs_no_op : (known : Known) (number : ℕ) (goal : Goal) (one : Decided) → is_provider_goal goal ≡ true → op_of_goal known number goal one ≡ None
@@ -108,11 +107,6 @@ none_due known about lane number goal only provider due goes =
     let never : some_passes (same_op about) (op_of_goal known number found.0 found.1) ≡ false = ap (some_passes (same_op about)) none in
     absurd (let e : true ≡ false = sym sends ∙ never in cc)
 
--- a number that is the one wanted
-is_row_some : (o : Option ℕ) (number : ℕ) → is_row o number ≡ true → o ≡ Some number
-is_row_some None number h = absurd (let e : false ≡ true = h in cc)
-is_row_some (Some own) number h = ap (λ (n : ℕ). Some n) (equal_numbers own number h)
-
 -- what no one passes, none that is found passes
 found_fails : {X : Type 0} (test wanted : X → Bool) (xs : List X) (x : X) → list_any test xs ≡ false → find wanted xs ≡ Some x → test x ≡ false
 found_fails test wanted [] x none h = absurd (let e : None ≡ Some x = h in cc)
@@ -127,11 +121,6 @@ found_fails {X = X} test wanted (y ∷ ys) x none h = by (wanted y) (test y) ref
 
 -- ---- a provider's keep
 
--- the second of two tests that both fail
-or_behind : (a b : Bool) → (a || b) ≡ false → b ≡ false
-or_behind true b h = absurd (let e : true ≡ false = h in cc)
-or_behind false b h = h
-
 -- a goal that was not recorded has no number kept for it
 fresh_unrecorded : (past : List Event) (number : ℕ) → has_number (recorded_of past) number ≡ false → fresh_of past number ≡ None
 fresh_unrecorded [] number h = refl
@@ -139,7 +128,7 @@ fresh_unrecorded (event ∷ past) number h = by event.what (fresh_unrecorded pas
   where
     behind : (o : Option ℕ) → has_number (cons_option o (recorded_of past)) number ≡ false → has_number (recorded_of past) number ≡ false
     behind None h = h
-    behind (Some other) h = or_behind (other == number) (has_number (recorded_of past) number) h
+    behind (Some other) h = neither_right (other == number) (has_number (recorded_of past) number) h
 
     kept_other : (fresh : Option ℕ) (b : Bool) → (has_number (recorded_of past) number ≡ false → fresh_of past number ≡ None)
         → (b || has_number (recorded_of past) number) ≡ false → option_or (fresh_of past number) (only_if b fresh) ≡ None
@@ -184,7 +173,7 @@ module _ (run : Fixed) (known : Known) (number : ℕ) (goal : Goal) (one : Decid
   unsent_step seat past (Begun ticket lane about) may only rest = by (is_row (goal_of_op about) number) refl
     where
       by : (b : Bool) → is_row (goal_of_op about) number ≡ b → (b || list_any sent_for (begun_of past)) ≡ false
-      by true is = absurd (none_due (known_of run past) about lane number goal only provider may.due (is_row_some (goal_of_op about) number is))
+      by true is = absurd (none_due (known_of run past) about lane number goal only provider may.due (row_is (goal_of_op about) number is))
       by false is = rest
   unsent_step seat past _ may only rest = rest
 

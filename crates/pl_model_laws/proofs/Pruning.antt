@@ -1,7 +1,9 @@
 -- The state of a run that reads everything anew is sound: what nothing meets is taken out of it.
-use Rattle.std.proofs.Common.{◌≡◌, ◌≢◌, ℕ, suc, ◌+◌, Bool, true, false, ◌||◌, if◌then◌else◌, List, [], ◌∷◌, ◌++◌, All, AllPairs, length, map, reverse, take, Option, Some, None, refl, sym, ◌∙◌, ap, subst, arith}
+use Rattle.std.proofs.Common.{◌≡◌, ◌≢◌, ℕ, suc, ◌+◌, Bool, true, false, ◌||◌, if◌then◌else◌, List, [], ◌∷◌, ◌++◌, AllPairs, length, map, reverse, take, Option, Some, None, refl, sym, ◌∙◌, ap, subst, arith}
 use Rattle.std.proofs.lemmas.Slice.Eq.{bytes_eq-Decides}
 use Rattle.std.specs.List.{enumerate_from, list_any}
+use Rattle.std.proofs.lemmas.Option.{same_Some}
+use Rattle.pl_lemmas.proofs.Each.{Each, Pairwise, each_weaker, each_append, all_each}
 use Rattle.pl_reference.specs.declared.reference.ProviderRef.{ProviderRef}
 use Rattle.pl_refresh.specs.Refreshed.{Left, all_left, if_there, imported_left, is_there, keyed_left, nearest, past_row, provider_left, pruned, pruned_behind, pruned_row, replaced_left, replaced_row, rows_left, urns_left}
 use Rattle.pl_refresh.specs.declared.row_now.RowNow.{RowNow}
@@ -22,13 +24,12 @@ use Rattle.pl_model.specs.Known.{Known}
 use Rattle.pl_model.specs.Legal.{IsOrderly}
 use Rattle.pl_model.specs.State.{imported_entries, refreshed_entries, row_read, rows_read, state_of}
 use Rattle.pl_model.specs.Tickets.{reply_to}
+use Rattle.pl_model_stays.proofs.Growing.{run_of}
+use Rattle.pl_model_stays.proofs.Pairs.{each-passes, pairs-all, pairs-append, pairs-weaker, each_map}
 use Rattle.pl_model_laws.specs.Apart.{AreApart, KeepsApart}
-use Rattle.pl_model_laws.proofs.Growing.{run_of}
 use Rattle.pl_model_laws.proofs.Importing.{imported-apart}
-use Rattle.pl_model_laws.proofs.Pairs.{Each, Pairwise, each-append, each-passes, each-weaker, pairs-all, pairs-append, pairs-weaker}
 use Rattle.pl_model_laws.proofs.Sounding.{RefersBack, refers-more, refers-none, sound-from}
-use Rattle.pl_model_laws.proofs.Staying.{some_same}
-use Rattle.pl_model_laws.proofs.Wants.{MeetsKinds, each_map, met_by_kinds}
+use Rattle.pl_model_laws.proofs.Wants.{MeetsKinds, met_by_kinds}
 
 -- ---- what is left of references
 
@@ -38,7 +39,7 @@ there_if there None urn h = absurd (let e : None ≡ Some urn = h in cc)
 there_if there (Some own) urn h = by (there own) refl h
   where
     by : (b : Bool) → there own ≡ b → (if b then Some own else None) ≡ Some urn → there urn ≡ true
-    by true is h = ap (λ (it : List ℕ). there it) (sym (some_same own urn h)) ∙ is
+    by true is h = ap (λ (it : List ℕ). there it) (sym (same_Some own urn h)) ∙ is
     by false is h = absurd (let e : None ≡ Some urn = h in cc)
 
 -- the nearest that is there is there
@@ -50,7 +51,7 @@ nearest_there there (row ∷ before) (Some own) urn h = by (there own) refl h (n
   where
     by : (b : Bool) → there own ≡ b → (if b then Some own else nearest there before (past_row row (Some own))) ≡ Some urn
         → (nearest there before (past_row row (Some own)) ≡ Some urn → there urn ≡ true) → there urn ≡ true
-    by true is h rest = ap (λ (it : List ℕ). there it) (sym (some_same own urn h)) ∙ is
+    by true is h rest = ap (λ (it : List ℕ). there it) (sym (same_Some own urn h)) ∙ is
     by false is h rest = rest h
 
 -- a provider that is left is there
@@ -61,7 +62,7 @@ provider_there earlier (Some own) reference h = by (list_any (is_provider own) e
   where
     by : (b : Bool) → list_any (is_provider own) earlier ≡ b → (if b then Some own else None) ≡ Some reference
         → list_any (is_provider reference) earlier ≡ true
-    by true is h = ap (λ (it : ProviderRef). list_any (is_provider it) earlier) (sym (some_same own reference h)) ∙ is
+    by true is h = ap (λ (it : ProviderRef). list_any (is_provider it) earlier) (sym (same_Some own reference h)) ∙ is
     by false is h = absurd (let e : None ≡ Some reference = h in cc)
 
 -- the URNs that are left are there
@@ -108,11 +109,11 @@ pruned_apart base earlier [] own apart cross = own
 pruned_apart base earlier (left ∷ more) own apart cross =
     pruned_apart base (earlier ++ pruned_row base earlier left ∷ []) more
     (pairs-append AreApart earlier (pruned_row base earlier left ∷ []) own (tt, tt)
-    (each-weaker (λ (row : Entry). ApartFrom row (left ∷ more)) (λ (row : Entry). Each (AreApart row) (pruned_row base earlier left ∷ []))
+    (each_weaker (λ (row : Entry). ApartFrom row (left ∷ more)) (λ (row : Entry). Each (AreApart row) (pruned_row base earlier left ∷ []))
     (λ row both. (both.0, tt)) earlier cross))
     apart.1
-    (each-append (λ (row : Entry). ApartFrom row more) earlier (pruned_row base earlier left ∷ [])
-    (each-weaker (λ (row : Entry). ApartFrom row (left ∷ more)) (λ (row : Entry). ApartFrom row more) (λ row both. both.1) earlier cross)
+    (each_append (λ (row : Entry). ApartFrom row more) earlier (pruned_row base earlier left ∷ [])
+    (each_weaker (λ (row : Entry). ApartFrom row (left ∷ more)) (λ (row : Entry). ApartFrom row more) (λ row both. both.1) earlier cross)
     (apart.0, tt))
 
 -- a mapped list stands in a relation that its elements stand in once they are mapped
@@ -120,16 +121,11 @@ pairs_map : {X Y : Type 0} (f : X → Y) (R : Y → Y → Type 0) (xs : List X) 
 pairs_map f R [] h = tt
 pairs_map f R (x ∷ xs) h = (each_map f (R (f x)) xs h.0, pairs_map f R xs h.1)
 
--- what holds at every place holds of each
-each_from : {X : Type 0} (P : X → Type 0) (xs : List X) → All P xs → Each P xs
-each_from P [] h = tt
-each_from P (x ∷ xs) h = (h 0 x (omega arith), each_from P xs (λ k d low. h (suc k) d (omega arith)))
-
 -- a relation of every two places is one of every two elements
 pairs_from : {X : Type 0} (R : X → X → Type 0) (xs : List X) → AllPairs R xs → Pairwise R xs
 pairs_from R [] h = tt
 pairs_from R (x ∷ xs) h = (
-  each_from (R x) xs (λ k d low. h 0 (suc k) d (omega arith) (omega arith)),
+  all_each (R x) xs (λ k d low. h 0 (suc k) d (omega arith) (omega arith)),
   pairs_from R xs (λ i j d before low. h (suc i) (suc j) d (omega arith) (omega arith)),
 )
 
@@ -185,7 +181,7 @@ left_apart place (row ∷ rows) (now.AsItWas ∷ said) keep apart =
 left_apart place (row ∷ rows) (now.Gone ∷ said) keep apart = left_apart (suc place) rows said keep.1 apart.1
 left_apart place (row ∷ rows) (now.Found entry ∷ said) keep apart = (
   left_from entry (suc place) rows said keep.1
-      (each-weaker (AreApart row) (AreApart entry)
+      (each_weaker (AreApart row) (AreApart entry)
       (λ other far stays remains same. far (sym keep.0.1 ∙ stays) remains (sym keep.0.0 ∙ same)) rows apart.0),
   left_apart (suc place) rows said keep.1 apart.1,
 )
@@ -237,7 +233,7 @@ none_has urn (row ∷ rows) h = by (has_urn urn row) refl h (none_has urn rows)
 imported_from : (base imported : List Entry) (row : Entry) → ApartFrom (replaced_row imported row) (imported_left base imported)
 imported_from base imported row =
     each_map (λ (entry : Entry). record { place = length base; row = entry }) (λ (left : Left). AreApart (replaced_row imported row) left.row)
-    imported (each_late _ imported (λ stays. each-weaker (λ (entry : Entry). row.urn ≢ entry.urn)
+    imported (each_late _ imported (λ stays. each_weaker (λ (entry : Entry). row.urn ≢ entry.urn)
     (λ (entry : Entry). (entry.doomed ≡ false) → (replaced_row imported row).urn ≢ entry.urn)
     (λ entry far remains same. far (sym (replaced_urn imported row) ∙ same)) imported
     (none_has row.urn imported (replaced_stays imported row stays).none)))

@@ -1,6 +1,7 @@
 -- Where nothing is out, due or over the limit, everything is done.
 use Rattle.std.proofs.Common.{◌≡◌, ◌<◌, ℕ, suc, length, Bool, true, false, not, ◌||◌, List, [], ◌∷◌, option_and_then, slice_get, take, Option, Some, None, is_none, is_some, refl, sym, ◌∙◌, ap, subst}
 use Rattle.std.specs.List.{list_any}
+use Rattle.pl_lemmas.proofs.Options.{some_there}
 use Rattle.pl_reference.specs.declared.reference.ProviderRef.{ProviderRef}
 use Rattle.pl_state.specs.Chain.{last_from, last_place, last_provider, or_else_place, provider_row_of}
 use Rattle.pl_state.specs.References.{is_provider}
@@ -15,16 +16,16 @@ use Rattle.pl_model.specs.declared.fixed.Fixed.{Fixed}
 use Rattle.pl_model.specs.Run.{HasNames, has_host, is_destroy, is_preview, is_refresh, rows_of}
 use Rattle.pl_model.specs.declared.mode.Mode.{Mode}
 use Rattle.pl_model.specs.declared.mode.Mode.TheVariants.{Up, Preview, Destroy, Refresh}
-use Rattle.pl_model.specs.Claims.{numbered}
+use Rattle.pl_lemmas.specs.Words.{numbered}
 use Rattle.pl_model.specs.Due.{IsQuiet}
 use Rattle.pl_model.specs.History.{goals_after, known_of}
 use Rattle.pl_model.specs.Known.{Known, goal_at, has_problem, host_ended}
 use Rattle.pl_model.specs.Legal.{IsOrderly, MayHappen}
+use Rattle.pl_model_stays.proofs.Growing.{run_of}
 use Rattle.pl_model_laws.specs.Quiet.{IsAllDone}
 use Rattle.pl_model_laws.proofs.Circling.{IsStill, everything_done}
 use Rattle.pl_model_laws.proofs.Ending.{end-held, end-provided}
 use Rattle.pl_model_laws.proofs.Freeing.{urn-ready}
-use Rattle.pl_model_laws.proofs.Growing.{run_of}
 use Rattle.pl_model_laws.proofs.Places.{provided-named, references-ready}
 use Rattle.pl_model_laws.proofs.Replying.{goal-recorded, reply-came, row-removed}
 use Rattle.pl_model_laws.proofs.Serving.{lanes-serve, provider-configured}
@@ -33,7 +34,6 @@ use Rattle.pl_model_laws.proofs.TakenOver.{all-decided}
 use Rattle.pl_model_laws.proofs.Troubles.{lacking-trouble, refused-trouble}
 use Rattle.pl_model_laws.proofs.Wants.{provider_met}
 use Rattle.pl_model_laws.proofs.Working.{config-serves, no-drop, no-keep}
-use Rattle.pl_model_laws.proofs.Waiting.{some_named}
 
 -- ---- the provider of a row
 
@@ -58,7 +58,7 @@ provider_there rows place row sound here names = by row.provider refl names
     by None is none = absurd (let e : true ≡ false = none in cc)
     by (Some reference) is some =
         let met = provider_met (take place rows) row (sound-back rows sound place row here) reference is in
-        let found = some_named (last_place (is_provider reference) (take place rows)) (last_there (is_provider reference) 0 (take place rows) met) in (
+        let found = some_there (last_place (is_provider reference) (take place rows)) (last_there (is_provider reference) 0 (take place rows) met) in (
           found.0,
           ap (λ (o : Option Entry). option_and_then (λ (it : Entry). last_provider it.provider (take place rows)) o) here
               ∙ ap (λ (o : Option ProviderRef). last_provider o (take place rows)) is ∙ found.1,

@@ -3,10 +3,15 @@ use Rattle.std.proofs.Common.{◌≡◌, ℕ, ◌==◌, Bool, true, false, ◌||
 use Rattle.std.proofs.lemmas.List.{reverse-append}
 use Rattle.std.proofs.lemmas.List.Elements.{filter_map-append}
 use Rattle.std.proofs.lemmas.List.Folds.{list_any-append}
-use Rattle.std.proofs.lemmas.Slice.Eq.{bytes_eq-Decides}
 use Rattle.std.specs.List.{cons_option, list_any, list_all}
+use Rattle.std.proofs.Math.Bool.{or-true}
+use Rattle.pl_lemmas.proofs.Truth.{and_left, and_right}
+use Rattle.pl_lemmas.proofs.Options.{some_there, passing}
+use Rattle.pl_lemmas.proofs.Numbers.{same_number, equal_numbers}
+use Rattle.pl_lemmas.proofs.Lists.{bytes_same, all_weaker}
 use Rattle.pl_state.specs.Kinds.{is_provider_goal}
-use Rattle.pl_state.specs.References.{further_urns, has_urn, is_id, is_provider, optional_refs, option_list, property_urns}
+use Rattle.pl_lemmas.specs.Words.{has_number, none_or, numbered, option_list}
+use Rattle.pl_state.specs.References.{further_urns, has_urn, is_id, is_provider, optional_refs, property_urns}
 use Rattle.pl_sound.specs.Sound.{is_met}
 use Rattle.pl_state.specs.declared.entry.Entry.{Entry}
 use Rattle.pl_state.specs.declared.fault.Missing.{Missing}
@@ -17,17 +22,17 @@ use Rattle.pl_events.specs.declared.event.What.{What}
 use Rattle.pl_events.specs.declared.event.What.TheVariants.{Told}
 use Rattle.pl_model.specs.declared.decided.Decided.{Decided}
 use Rattle.pl_model.specs.declared.fixed.Fixed.{Fixed}
-use Rattle.pl_model.specs.Recording.{has_number, recorded_by, recorded_of}
-use Rattle.pl_model.specs.Claims.{numbered, goal_number}
-use Rattle.pl_model.specs.Due.{references_recorded, is_recorded_urn, none_or}
+use Rattle.pl_model.specs.Recording.{recorded_by, recorded_of}
+use Rattle.pl_model.specs.Claims.{goal_number}
+use Rattle.pl_model.specs.Due.{references_recorded, is_recorded_urn}
 use Rattle.pl_model.specs.Entries.{Result, recorded_entry, recording_of, reference_to}
 use Rattle.pl_model.specs.History.{known_of, goals_after}
 use Rattle.pl_model.specs.Known.{Known, decided_goal, goal_at, is_recorded, provider_id}
 use Rattle.pl_model.specs.Legal.{IsOrderly}
-use Rattle.pl_model_laws.specs.Order.{RecordedAfterReferences}
-use Rattle.pl_model_laws.proofs.Growing.{equal_numbers, or_true, goals-stay, numbered_more, recordings-stay, same_number}
-use Rattle.pl_model_laws.proofs.Once.{and_left, and_right, history_of}
-use Rattle.pl_model_laws.proofs.Standing.{Stands, entry-there, only_there, passing, recording-there, some_there}
+use Rattle.pl_model_stays.specs.Order.{RecordedAfterReferences}
+use Rattle.pl_model_stays.proofs.Growing.{goals-stay, numbered_more, recordings-stay}
+use Rattle.pl_model_stays.proofs.Once.{history_of}
+use Rattle.pl_model_stays.proofs.Standing.{Stands, entry-there, only_there, recording-there}
 use Rattle.pl_model_laws.proofs.Providers.{provider-id}
 
 -- ---- where a goal was recorded
@@ -130,10 +135,6 @@ number_found (goal ∷ earlier) urn number h = by (bytes_eq goal.urn urn) refl (
         )
     by false is rest h = let found = rest h in (found.0, numbered_more goal earlier number found.0 found.1, found.2)
 
--- a text is equal to itself
-bytes_same : (text : List ℕ) → bytes_eq text text ≡ true
-bytes_same text = (bytes_eq-Decides text text).1 refl
-
 -- ---- tests on the entries of numbers
 
 -- a test that the row of one of the numbers passes is passed among the rows
@@ -155,14 +156,8 @@ entry_met test row_of (first ∷ others) number row has is passes =
         → (list_any test (filter_map row_of (reverse others)) || list_any test (cons_option (row_of first) [])) ≡ true
     by true same rest has =
         ap (λ (b : Bool). list_any test (filter_map row_of (reverse others)) || b) (here (equal_numbers first number same))
-        ∙ or_true (list_any test (filter_map row_of (reverse others)))
+        ∙ or-true (list_any test (filter_map row_of (reverse others)))
     by false same rest has = ap (λ (b : Bool). b || list_any test (cons_option (row_of first) [])) (rest has)
-
--- where each passes one test, each passes a weaker one
-pub all_weaker : {X : Type 0} (p q : X → Bool) → ((x : X) → p x ≡ true → q x ≡ true) → (xs : List X) → list_all p xs ≡ true → list_all q xs ≡ true
-all_weaker p q weaker [] h = refl
-all_weaker p q weaker (x ∷ xs) h =
-    ap (λ (b : Bool). b && list_all q xs) (weaker x (and_left (p x) (list_all p xs) h)) ∙ all_weaker p q weaker xs (and_right (p x) (list_all p xs) h)
 
 -- ---- references
 

@@ -1,9 +1,14 @@
 -- What was deleted or dropped was to go; the claim of a goal that is not recorded is left.
-use Rattle.std.proofs.Common.{◌≡◌, ℕ, zero, suc, ◌+◌, ◌<◌, ◌≤◌, ◌==◌, Bool, true, false, not, ◌&&◌, ◌||◌, ◌⊎◌, inl, inr, List, [], ◌∷◌, ◌++◌, append_assoc, length, nat_lt, Option, Some, None, refl, sym, ◌∙◌, ap, subst, arith, slice_get, option_map, option_and_then, eq-or-lt_of_le}
+use Rattle.std.proofs.Common.{◌≡◌, ℕ, ◌+◌, ◌<◌, ◌≤◌, ◌==◌, Bool, true, false, not, ◌&&◌, ◌||◌, ◌⊎◌, inl, inr, List, ◌∷◌, ◌++◌, append_assoc, length, nat_lt, Option, Some, None, refl, sym, ◌∙◌, ap, subst, arith, slice_get, option_map, option_and_then, []}
 use Rattle.std.proofs.lemmas.Bool.Decides.{nat_tests}
-use Rattle.std.proofs.lemmas.Option.{slice_get_within}
-use Rattle.std.specs.List.{cons_option, list_all, list_any, range_with_len}
-use Rattle.pl_state.specs.Chain.{some_passes}
+use Rattle.std.proofs.lemmas.Option.{slice_get_within, same_Some}
+use Rattle.std.specs.List.{cons_option, list_any}
+use Rattle.std.proofs.Math.Bool.{and-false, or-true}
+use Rattle.pl_lemmas.proofs.Truth.{and_left, and_right, or_first}
+use Rattle.pl_lemmas.proofs.Numbers.{equal_numbers, range_passes, numbered_there}
+use Rattle.pl_lemmas.specs.Words.{has_number, is_row, numbered, only_if, some_passes}
+use Rattle.pl_lemmas.proofs.Lists.{numbered_passes}
+use Rattle.pl_lemmas.proofs.Options.{only_some}
 use Rattle.pl_state.specs.declared.entry.Entry.{Entry}
 use Rattle.pl_state.specs.declared.goal.Goal.{Goal}
 use Rattle.pl_events.specs.Closing.{has_host_end, is_host_end}
@@ -14,27 +19,28 @@ use Rattle.pl_events.specs.declared.operation.Op.{Op}
 use Rattle.pl_events.specs.declared.operation.Op.TheVariants as op
 use Rattle.pl_events.specs.declared.operation.Subject.TheVariants as subject
 use Rattle.pl_events.specs.declared.reply.Reply.{Reply}
+use Rattle.pl_decide.specs.Limited.{is_create_first, is_delete_first}
 use Rattle.pl_model.specs.declared.decided.Decided.{Decided}
 use Rattle.pl_model.specs.declared.errand.Errand.{Errand}
 use Rattle.pl_model.specs.declared.fixed.Fixed.{Fixed}
 use Rattle.pl_model.specs.declared.work.Work.TheVariants.{Drop as to_drop, Send as to_send}
-use Rattle.pl_model.specs.Run.{has_host, is_preview, is_refresh, rows_of}
+use Rattle.pl_model.specs.Run.{has_host, is_refresh, rows_of}
 use Rattle.pl_model.specs.Tickets.{errand_at, same_op, was_begun}
-use Rattle.pl_model.specs.Recording.{has_number, is_removed, only_if, removed_by, removed_by_reply, removed_of, row_of_delete}
-use Rattle.pl_decide.specs.Limited.{is_create_first, is_delete_first}
-use Rattle.pl_model.specs.Claims.{chain_of_goal, claimer_of, is_chained, is_claimed, is_row, numbered}
-use Rattle.pl_model.specs.Due.{is_delete_ready, is_drop_ready, is_due, is_due_on, is_lane_of, is_ready, is_ready_on, is_removable, is_wanted_op, passes_limit}
+use Rattle.pl_model.specs.Recording.{is_removed, removed_by, removed_by_reply, removed_of, row_of_delete}
+use Rattle.pl_model.specs.Claims.{chain_of_goal, claimer_of, is_chained, is_claimed}
+use Rattle.pl_model.specs.Due.{is_delete_ready, is_due, is_due_on, is_lane_of, is_ready_on, is_removable, is_wanted_op, passes_limit}
 use Rattle.pl_model.specs.History.{goals_after, known_of}
 use Rattle.pl_model.specs.Known.{Known, all_recorded, decided_goal, goal_at, has_problem, host_ended, is_over, is_recorded}
 use Rattle.pl_model.specs.Legal.{IsOrderly, MayHappen}
-use Rattle.pl_model.specs.Rows.{goes_now, has_dependents, is_deleted_first, is_doomed, is_left, is_marked, is_replaced, is_sent, is_taken_out, is_taken_over, is_target, row_at, stands_beside, takes_along, was_removed}
+use Rattle.pl_model.specs.Rows.{goes_now, is_deleted_first, is_doomed, is_left, is_marked, is_replaced, is_sent, is_taken_out, is_taken_over, is_target, row_at, stands_beside, takes_along, was_removed}
+use Rattle.pl_model_stays.proofs.Claiming.{claims-allowed, numbered_behind, passing_number, was-made, where_found}
+use Rattle.pl_model_stays.proofs.Growing.{Grown, decisions-stay, goals-stay, numbered_below, run_of}
+use Rattle.pl_model_stays.proofs.Once.{equal_ops, history_of, not_true}
+use Rattle.pl_model_stays.proofs.Recorded.{recorded-held}
+use Rattle.pl_model_stays.proofs.Staying.{errand_sent, recorded-stays, sent_begun}
+use Rattle.pl_model_stays.proofs.Listing.{removable-parts, dropped-removable}
 use Rattle.pl_model_laws.proofs.Along.{along-told}
-use Rattle.pl_model_laws.proofs.Claiming.{claims-allowed, numbered_behind, numbered_passes, numbered_there, passing_number, was-made, where_found}
-use Rattle.pl_model_laws.proofs.Growing.{Grown, decisions-stay, equal_numbers, goals-stay, numbered_below, or_true, run_of}
 use Rattle.pl_model_laws.proofs.Leaving.{claim-gone, claimed-once, claimer_is, claimer_parts, known-apart, left_made}
-use Rattle.pl_model_laws.proofs.Once.{and_left, and_right, equal_ops, history_of, not_true}
-use Rattle.pl_model_laws.proofs.Recorded.{recorded-held}
-use Rattle.pl_model_laws.proofs.Staying.{errand_sent, recorded-stays, sent_begun, some_same}
 
 -- ---- what stays until a later history
 
@@ -79,7 +85,7 @@ ended_stays run event past h =
   where
     by : (hostless newest : Bool) → (hostless || has_host_end past) ≡ true → (hostless || (newest || has_host_end past)) ≡ true
     by true newest h = refl
-    by false newest h = ap (λ (b : Bool). newest || b) h ∙ or_true newest
+    by false newest h = ap (λ (b : Bool). newest || b) h ∙ or-true newest
 
 pub later-before : (run : Fixed) (event : Event) (past : List Event) (known : Known)
     → MayHappen (known_of run past) event.seat event.what → Later run (event ∷ past) known → Later run past known
@@ -104,34 +110,14 @@ later-through run middle past known ended first second = record {
 
 -- ---- tests
 
--- what is not the second is the first
-pub first_of_two : (a b : Bool) → (a || b) ≡ true → b ≡ false → a ≡ true
-first_of_two true b h none = refl
-first_of_two false b h none = absurd (let e : true ≡ false = sym h ∙ none in cc)
-
 -- what stands behind one more stands behind
 pub grown_behind : {X : Type 0} (x : X) (xs ys : List X) → Grown (x ∷ xs) ys → Grown xs ys
 grown_behind x xs ys grown = (grown.0 ++ x ∷ [], grown.1 ∙ sym (append_assoc grown.0 (x ∷ []) xs))
 
--- a number of a range passes what all of them pass
-range_passes : (test : ℕ → Bool) (a n k : ℕ) → a ≤ k → k < a + n → list_all test (range_with_len a n) ≡ true → test k ≡ true
-range_passes test a zero k low high h = absurd (omega arith)
-range_passes test a (suc n) k low high h =
-    by (eq-or-lt_of_le low) (and_left (test a) _ h)
-    (λ later. range_passes test (a + 1) n k (omega arith) (omega arith) (and_right (test a) _ h))
-  where
-    by : (a ≡ k) ⊎ (a < k) → test a ≡ true → (a < k → test k ≡ true) → test k ≡ true
-    by (inl same) here rest = subst (λ (j : ℕ). test j ≡ true) same here
-    by (inr later) here rest = rest later
-
 -- the deletion of a row is the only one that takes it out
 delete_is : (about : Op) (row : ℕ) → row_of_delete about ≡ Some row → about ≡ op.Delete (subject.Row row)
-delete_is (op.Delete (subject.Row own)) row h = ap (λ (n : ℕ). op.Delete (subject.Row n)) (some_same own row h)
+delete_is (op.Delete (subject.Row own)) row h = ap (λ (n : ℕ). op.Delete (subject.Row n)) (same_Some own row h)
 delete_is _ row h = absurd (let e : None ≡ Some row = h in cc)
-
-only_some : {X : Type 0} (b : Bool) (o : Option X) (x : X) → only_if b o ≡ Some x → o ≡ Some x
-only_some true o x h = h
-only_some false o x h = absurd (let e : None ≡ Some x = h in cc)
 
 -- an answer takes out the row of its errand
 answered_removal : (past : List Event) (ticket : ℕ) (reply : Reply) (row : ℕ) → removed_by past (Answered ticket reply) ≡ Some row
@@ -145,35 +131,7 @@ answered_removal past ticket reply row h = by (errand_at past ticket) refl h
     by None is h = absurd (let e : None ≡ Some row = h in cc)
     by (Some errand) is h = (errand, is, only_some (is_removed reply) (row_of_delete errand.op) row h)
 
--- both of a test and one that fails fail
-and_none : (a : Bool) → (a && false) ≡ false
-and_none true = refl
-and_none false = refl
-
 -- ---- what was deleted or dropped
-
--- what can be deleted or dropped is to go, was not deleted or dropped before, and no later row that refers to it is left
-pub record IsRemovable (known : Known) (row : ℕ) : Type 0 where
-  pub doomed : is_doomed known row ≡ true
-  pub unremoved : was_removed known row ≡ false
-  pub free : has_dependents known row ≡ false
-
-pub removable-parts : (known : Known) (row : ℕ) → is_removable known row ≡ true → IsRemovable known row
-removable-parts known row h =
-    let three = and_left (is_doomed known row && not (was_removed known row) && not (has_dependents known row)) (not (is_preview known.run.mode)) h in
-    let two = and_left (is_doomed known row && not (was_removed known row)) (not (has_dependents known row)) three in
-    record {
-      doomed = and_left (is_doomed known row) (not (was_removed known row)) two;
-      unremoved = not_true (was_removed known row) (and_right (is_doomed known row) (not (was_removed known row)) two);
-      free = not_true (has_dependents known row) (and_right (is_doomed known row && not (was_removed known row)) (not (has_dependents known row)) three);
-    }
-
--- a drop that is due is one of a row that can go
-pub dropped-removable : (known : Known) (row : ℕ) → is_due known (to_drop row) ≡ true → is_removable known row ≡ true
-dropped-removable known row h =
-    and_left (is_removable known row) (not (is_sent known row))
-    (and_right (not (has_problem known)) (is_drop_ready known row)
-    (and_left (is_ready known (to_drop row)) (not (passes_limit known (to_drop row))) h))
 
 -- and so is a deletion
 pub deleted-removable : (known : Known) (row lane : ℕ) → is_due_on known (op.Delete (subject.Row row)) lane ≡ true → is_removable known row ≡ true
@@ -245,7 +203,7 @@ module _ (run : Fixed) (row : ℕ) where
       → removed_by past what ≡ Some row → (is_removable (known_of run past) row ≡ true) ⊎ (was_begun past deletes ≡ true)
   removed_step past seat (Dropped own) may h =
       inl (dropped-removable (known_of run past) row
-      (subst (λ (n : ℕ). is_due (known_of run past) (to_drop n) ≡ true) (some_same own row h) may))
+      (subst (λ (n : ℕ). is_due (known_of run past) (to_drop n) ≡ true) (same_Some own row h) may))
   removed_step past seat (Answered ticket reply) may h =
       let found = answered_removal past ticket reply row h in
       inr (subst (λ (about : Op). was_begun past about ≡ true) (delete_is found.0.op row found.2)
@@ -282,7 +240,7 @@ module _ (run : Fixed) (history : List Event) (number row : ℕ) (one : Decided)
 
   -- what is decided of the goal at a history before
   only_one : (past : List Event) → Later run past known → (other : Decided) → decided_goal (known_of run past) number ≡ Some other → other ≡ one
-  only_one past later other h = some_same other one (sym (later.decisions number other h) ∙ decided)
+  only_one past later other h = same_Some other one (sym (later.decisions number other h) ∙ decided)
 
   -- the goal alone claims the row
   same_goal : (past : List Event) → Later run past known → (n : ℕ) (other : Decided) → decided_goal (known_of run past) n ≡ Some other
@@ -453,7 +411,7 @@ module _ (run : Fixed) (history : List Event) (number row : ℕ) (one : Decided)
               subst (λ (fixed : Fixed). has_number (chain_of_goal fixed other) row ≡ true) (run_of run past)
               (and_left (has_number (chain_of_goal (known_of run past).run other) row) _ takes) in
               let free : not (is_claimed (known_of run past).decided row) ≡ true =
-              first_of_two (not (is_claimed (known_of run past).decided row)) (is_marked (known_of run past) row)
+              or_first (not (is_claimed (known_of run past).decided row)) (is_marked (known_of run past) row)
               (along-told (known_of run past) row (and_right (has_number (chain_of_goal (known_of run past).run other) row) _ takes))
               (unmarked_so past later) in
               unclaimed n other at chained (not_true (is_claimed (known_of run past).decided row) free)
@@ -524,7 +482,7 @@ module _ (run : Fixed) (history : List Event) (number row : ℕ) (one : Decided)
         by true first =
             let held : is_deleted_first known row ≡ true =
             numbered_passes (λ (it : Decided). is_delete_first it.decision && is_row it.claim row) known.decided number one decided (rw first claims) in
-            ap (λ (b : Bool). was_removed known row && not b) held ∙ and_none (was_removed known row)
+            ap (λ (b : Bool). was_removed known row && not b) held ∙ and-false (was_removed known row)
         by false deletes_none =
             ap (λ (events : List Event). has_number (removed_of events) row && not (is_deleted_first known row)) (history_of run history)
             ∙ ap (λ (b : Bool). b && not (is_deleted_first known row)) (kept_there (unrecorded_kept missing) deletes_none orderly)

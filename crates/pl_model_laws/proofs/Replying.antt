@@ -2,9 +2,14 @@
 use Rattle.std.proofs.Common.{◌≡◌, ℕ, ◌==◌, Bool, true, false, ◌&&◌, ◌||◌, List, [], ◌∷◌, Option, Some, None, is_some, refl, sym, ◌∙◌, ap, subst, inl, inr, option_map, option_and_then, if◌then◌else◌}
 use Rattle.std.specs.List.{cons_option, list_any}
 use Rattle.std.specs.Option.{option_or}
-use Rattle.pl_state.specs.Chain.{some_passes}
+use Rattle.std.proofs.Math.Bool.{or-true}
+use Rattle.std.proofs.lemmas.Option.{same_Some}
+use Rattle.pl_lemmas.proofs.Truth.{and_left, and_right}
+use Rattle.pl_lemmas.proofs.Options.{some_there}
+use Rattle.pl_lemmas.proofs.Numbers.{same_number, equal_numbers}
+use Rattle.pl_lemmas.proofs.Each.{IsAmong}
+use Rattle.pl_lemmas.specs.Words.{has_number, only_if, some_passes}
 use Rattle.pl_state.specs.declared.goal.Goal.{Goal}
-use Rattle.pl_state.specs.declared.goal.Diffed.{Diffed}
 use Rattle.pl_events.specs.declared.event.Event.{Event}
 use Rattle.pl_events.specs.declared.event.What.{What}
 use Rattle.pl_events.specs.declared.event.What.TheVariants.{Answered}
@@ -18,29 +23,29 @@ use Rattle.pl_events.specs.declared.reply.Reply.{Reply}
 use Rattle.pl_events.specs.declared.reply.Reply.TheVariants as reply
 use Rattle.pl_decide.specs.declared.problem.Problem.{Problem}
 use Rattle.pl_decide.specs.declared.problem.Problem.TheVariants as problem
+use Rattle.pl_events.specs.Replies.{reply_fits, tells_success, tells_trouble}
 use Rattle.pl_model.specs.declared.errand.Closed.{Closed}
 use Rattle.pl_model.specs.declared.errand.Errand.{Errand}
 use Rattle.pl_model.specs.declared.fixed.Fixed.{Fixed}
 use Rattle.pl_model.specs.Run.{Pairs}
 use Rattle.pl_model.specs.Asked.{call_of}
-use Rattle.pl_model.specs.Decisions.{checked_in, diffed_in}
+use Rattle.pl_model.specs.Decisions.{checked_in}
 use Rattle.pl_model.specs.Due.{has_open}
 use Rattle.pl_model.specs.History.{known_of}
 use Rattle.pl_model.specs.Known.{Known, has_problem, is_recorded}
 use Rattle.pl_model.specs.Legal.{IsOrderly, MayBeAnswered, MayHappen}
 use Rattle.pl_model.specs.Problems.{own_problem, problem_of_closed, problem_of_reply, urn_of_subject}
-use Rattle.pl_model.specs.Recording.{goal_of_op, has_number, is_removed, is_thing, only_if, recorded_by_reply, recorded_of, removed_by_reply, removed_of, row_of_delete}
+use Rattle.pl_model.specs.Recording.{goal_of_op, is_removed, is_thing, recorded_by_reply, recorded_of, removed_by_reply, removed_of, row_of_delete}
 use Rattle.pl_model.specs.Tickets.{answers_of, begun_of, closed_by, errand_at, has_configured, is_configured, is_configured_reply, reply_if, reply_to, same_op, says_configured, was_begun}
-use Rattle.pl_events.specs.Replies.{reply_fits, tells_success, tells_trouble}
-use Rattle.pl_model_laws.proofs.Among.{IsAmong, any_found, any_among, find_among}
-use Rattle.pl_model_laws.proofs.Growing.{answers_by, equal_numbers, or_true, recordings-stay, same_number}
-use Rattle.pl_model_laws.proofs.Lanes.{fit-success}
+use Rattle.pl_model_stays.proofs.Among.{any_found, any_among, find_among}
+use Rattle.pl_model_stays.proofs.Growing.{answers_by, recordings-stay}
+use Rattle.pl_model_stays.proofs.Lanes.{fit-success}
+use Rattle.pl_model_stays.proofs.Subjects.{NamesGoal, MayName, IsNamed, begun-named}
+use Rattle.pl_model_stays.proofs.Once.{equal_ops, history_of}
+use Rattle.pl_model_stays.proofs.Standing.{answers_as, closed_with}
+use Rattle.pl_model_stays.proofs.Staying.{recorded-as, same_op_self}
+use Rattle.pl_model_stays.proofs.Ticketing.{WasAnswered, calm-before, errand-stays, errand-own, closed_answered, closed_errand}
 use Rattle.pl_model_laws.proofs.Leaving.{removed_more}
-use Rattle.pl_model_laws.proofs.Subjects.{NamesGoal, MayName, IsNamed, begun-named}
-use Rattle.pl_model_laws.proofs.Once.{and_left, and_right, equal_ops, history_of}
-use Rattle.pl_model_laws.proofs.Standing.{answers_as, closed_with, some_there}
-use Rattle.pl_model_laws.proofs.Staying.{recorded-as, same_op_self, some_same}
-use Rattle.pl_model_laws.proofs.Ticketing.{WasAnswered, calm-before, errand-stays, errand-own, closed_answered, closed_errand}
 
 -- ---- a reply that is no problem
 
@@ -216,7 +221,7 @@ module _ (run : Fixed) where
           by (Some first) is b same h = rest said (is ∙ h)
           by None is true same h =
               subst (λ (one : Op). GoesWell one said) (equal_ops it.0.op about same)
-              (subst (λ (reply : Reply). GoesWell it.0.op reply) (some_same given said h) it.2)
+              (subst (λ (reply : Reply). GoesWell it.0.op reply) (same_Some given said h) it.2)
           by None is false same h = absurd (let e : None ≡ Some said = h in cc)
   replied_step seat past _ about said orderly may none rest h = rest said h
 
@@ -240,7 +245,7 @@ has_configured_by (event ∷ past) errand (inl is) =
     (same_number errand.ticket)
 has_configured_by (event ∷ past) errand (inr given) =
     ap (λ (b : Bool). says_configured errand.ticket event.what || b) (has_configured_by past errand given)
-    ∙ or_true (says_configured errand.ticket event.what)
+    ∙ or-true (says_configured errand.ticket event.what)
 
 configured_is : (provider : Source) (said : Reply) → tells_success (call_of (op.Configure provider)) said ≡ true → said ≡ reply.Configured
 configured_is provider reply.Configured h = refl
@@ -255,7 +260,7 @@ module _ (run : Fixed) (history : List Event)
   answered-well errand there =
       let one = closed_answered run history errand.ticket orderly calm (closed_errand run history closed errand there) in
       let it = heard run history errand.ticket one.0 orderly calm one.1 in
-      let same : it.errand ≡ errand = some_same it.errand errand (sym it.at ∙ errand-own run history errand orderly there) in
+      let same : it.errand ≡ errand = same_Some it.errand errand (sym it.at ∙ errand-own run history errand orderly there) in
       (one.0, one.1, subst (λ (other : Errand). tells_success (call_of other.op) one.0 ≡ true) same it.well.success)
 
   -- an operation that was begun was answered, and this is what came of it
@@ -265,7 +270,7 @@ module _ (run : Fixed) (history : List Event)
       let one = any_found (λ errand. same_op errand.op about) (begun_of history) begun in
       let given = closed_answered run history one.0.ticket orderly calm (closed_errand run history closed one.0 one.1) in
       let it = heard run history one.0.ticket given.0 orderly calm given.1 in
-      let same : it.errand ≡ one.0 = some_same it.errand one.0 (sym it.at ∙ errand-own run history one.0 orderly one.1) in
+      let same : it.errand ≡ one.0 = same_Some it.errand one.0 (sym it.at ∙ errand-own run history one.0 orderly one.1) in
       (one.0.ticket, given.0, it, ap (λ (errand : Errand). errand.op) same ∙ equal_ops one.0.op about one.2)
 
   -- the reply to an operation that was begun came and tells of success
@@ -317,29 +322,13 @@ module _ (run : Fixed) (history : List Event)
 
 -- ---- what checks and diffs reply
 
-checked_told : (said : Reply) → tells_success call.Check said ≡ true → (fields : Pairs) × (checked_in (Some said) ≡ Some fields)
-checked_told (reply.Checked fields) h = (fields, refl)
-checked_told _ h = absurd (let e : false ≡ true = h in cc)
-
 config_told : (said : Reply) → tells_success call.CheckConfig said ≡ true → (fields : Pairs) × (checked_in (Some said) ≡ Some fields)
 config_told (reply.Checked fields) h = (fields, refl)
 config_told _ h = absurd (let e : false ≡ true = h in cc)
 
-diff_told : (said : Reply) → tells_success call.Diff said ≡ true → (diff : Diffed) × (diffed_in (Some said) ≡ Some diff)
-diff_told (reply.Diffed diff) h = (diff, refl)
-diff_told _ h = absurd (let e : false ≡ true = h in cc)
-
 module _ (run : Fixed) (history : List Event)
     (orderly : IsOrderly run history) (calm : has_problem (known_of run history) ≡ false)
     (closed : has_open (known_of run history) ≡ false) (on : Subject) where
-  -- the checked inputs came
-  pub check-came : was_begun history (op.Check on) ≡ true
-      → (fields : Pairs) × (checked_in (reply_to (known_of run history).answers (op.Check on)) ≡ Some fields)
-  check-came begun =
-      let one = reply-came run history orderly calm closed (op.Check on) begun in
-      let told = checked_told one.0 one.2 in
-      (told.0, ap (λ (o : Option Reply). checked_in o) one.1 ∙ told.1)
-
   -- the checked inputs of a provider came
   pub config-came : was_begun history (op.CheckConfig on) ≡ true
       → (fields : Pairs) × (checked_in (reply_to (known_of run history).answers (op.CheckConfig on)) ≡ Some fields)
@@ -347,11 +336,3 @@ module _ (run : Fixed) (history : List Event)
       let one = reply-came run history orderly calm closed (op.CheckConfig on) begun in
       let told = config_told one.0 one.2 in
       (told.0, ap (λ (o : Option Reply). checked_in o) one.1 ∙ told.1)
-
-  -- the diff came
-  pub diff-came : was_begun history (op.Diff on) ≡ true
-      → (diff : Diffed) × (diffed_in (reply_to (known_of run history).answers (op.Diff on)) ≡ Some diff)
-  diff-came begun =
-      let one = reply-came run history orderly calm closed (op.Diff on) begun in
-      let told = diff_told one.0 one.2 in
-      (told.0, ap (λ (o : Option Reply). diffed_in o) one.1 ∙ told.1)

@@ -1,47 +1,44 @@
 -- A quiet run that reads everything anew has read every row.
-use Rattle.std.proofs.Common.{◌≡◌, ◌<◌, ℕ, zero, suc, length, Bool, true, false, if◌then◌else◌, List, [], ◌∷◌, reverse, option_map, slice_get, Option, Some, None, is_none, is_some, refl, sym, ◌∙◌, ap, subst, arith}
+use Rattle.std.proofs.Common.{◌≡◌, ◌<◌, ℕ, length, Bool, true, false, if◌then◌else◌, List, ◌∷◌, option_map, slice_get, Option, Some, None, is_none, is_some, refl, sym, ◌∙◌, ap, subst, []}
 use Rattle.std.proofs.lemmas.Option.{slice_get_within}
-use Rattle.std.specs.List.{list_any}
 use Rattle.std.specs.Option.{option_or}
+use Rattle.pl_lemmas.proofs.Lists.{append_none, map_none}
+use Rattle.pl_lemmas.proofs.Each.{each_at}
 use Rattle.pl_state.specs.Chain.{provider_row_of}
 use Rattle.pl_sound.specs.Sound.{IsSound}
 use Rattle.pl_state.specs.declared.entry.Entry.{Entry}
 use Rattle.pl_events.specs.declared.event.Event.{Event}
 use Rattle.pl_events.specs.declared.operation.Op.TheVariants as op
 use Rattle.pl_events.specs.declared.operation.Subject.TheVariants as subject
+use Rattle.pl_decide.specs.declared.problem.Problem.TheVariants.{MissingProvider}
+use Rattle.pl_events.specs.declared.reply.Reply.{Reply}
 use Rattle.pl_model.specs.declared.fixed.Fixed.{Fixed}
 use Rattle.pl_model.specs.Run.{HasNames, has_host, is_refresh, rows_of}
 use Rattle.pl_model.specs.declared.mode.Mode.{Mode}
 use Rattle.pl_model.specs.declared.mode.Mode.TheVariants.{Refresh}
-use Rattle.pl_model.specs.Due.{IsQuiet, checks_of, deletes_of, is_wanted_op, operations_of, reads_of, sends_of, was_read}
+use Rattle.pl_model.specs.Due.{IsQuiet, is_wanted_op, was_read}
 use Rattle.pl_model.specs.History.{known_of}
 use Rattle.pl_model.specs.Known.{Known, has_problem, is_over, known_by}
 use Rattle.pl_model.specs.Legal.{IsOrderly}
-use Rattle.pl_decide.specs.declared.problem.Problem.TheVariants.{MissingProvider}
-use Rattle.pl_events.specs.declared.reply.Reply.{Reply}
-use Rattle.pl_model.specs.Claims.{first_some}
+use Rattle.pl_lemmas.specs.Words.{first_some}
+use Rattle.pl_lemmas.proofs.Options.{list_none}
 use Rattle.pl_model.specs.Problems.{at_position, end_problems, is_to_read, names_none, refresh_problems, unread_row}
-use Rattle.pl_model.specs.Rows.{row_at, row_numbers, source_of_provider, source_of_row}
-use Rattle.pl_model.specs.Tickets.{same_op, was_begun}
-use Rattle.pl_model_laws.proofs.Calm.{append_none, calm-before, first_none, map_none, no_problems, option_list_none}
-use Rattle.pl_model_laws.proofs.Growing.{run_of, same_number}
-use Rattle.pl_model_laws.proofs.Once.{history_of}
+use Rattle.pl_model.specs.Rows.{row_at, source_of_provider, source_of_row}
+use Rattle.pl_model.specs.Tickets.{was_begun}
+use Rattle.pl_model_stays.proofs.Growing.{run_of}
+use Rattle.pl_model_stays.proofs.Once.{history_of}
+use Rattle.pl_model_stays.proofs.Waiting.{true_or}
+use Rattle.pl_model_stays.proofs.Listing.{read_listed}
+use Rattle.pl_model_laws.proofs.Calm.{calm-before, first_none, no_problems}
 use Rattle.pl_model_laws.proofs.Replying.{reply-came}
-use Rattle.pl_model_laws.proofs.Pairs.{Each}
 use Rattle.pl_model_laws.proofs.Quieting.{provider_there}
 use Rattle.pl_model_laws.proofs.Serving.{lanes-serve}
-use Rattle.pl_model_laws.proofs.Waiting.{any_back, any_front, any_map, any_reversed, range_any, true_or}
 
 -- ---- no row lacks its provider
 
 pub or_first_none : {X : Type 0} (first second : Option X) → option_or first second ≡ None → first ≡ None
 or_first_none None second h = refl
 or_first_none (Some x) second h = absurd (let e : Some x ≡ None = h in cc)
-
-pub each_at : {X : Type 0} (P : X → Type 0) (xs : List X) (i : ℕ) (x : X) → Each P xs → slice_get xs i ≡ Some x → P x
-each_at P [] i x all h = absurd (let e : None ≡ Some x = h in cc)
-each_at {X} P (y ∷ xs) zero x all h = subst (λ (z : X). P z) (let e : Some y ≡ Some x = h in cc) all.0
-each_at P (y ∷ xs) (suc i) x all h = each_at P xs i x all.1 h
 
 -- what stood at the start stands
 pub start_calm : (run : Fixed) (history : List Event) → has_problem (known_of run history) ≡ false → has_problem (known_of run []) ≡ false
@@ -71,15 +68,6 @@ no_host run anew hosting = absurd (by run.mode anew hosting)
 
 -- ---- the law
 
-pub read_listed : (known : Known) (row : ℕ) → row < length (rows_of known.run) → list_any (same_op (op.Read (subject.Row row))) (operations_of known) ≡ true
-read_listed known row low =
-    any_back (same_op (op.Read (subject.Row row))) (deletes_of known) _ (any_back (same_op (op.Read (subject.Row row))) (checks_of known) _
-    (any_back (same_op (op.Read (subject.Row row))) (sends_of known) _ (any_front (same_op (op.Read (subject.Row row))) (reads_of known) _
-    (any_map (same_op (op.Read (subject.Row row))) (λ place. op.Read (subject.Row place)) (reverse (row_numbers known))
-    ∙ any_reversed (λ place. same_op (op.Read (subject.Row row)) (op.Read (subject.Row place))) (row_numbers known)
-    (range_any (λ place. same_op (op.Read (subject.Row row)) (op.Read (subject.Row place))) 0 (length (rows_of known.run)) row
-    (omega arith) (omega arith) (same_number row))))))
-
 module _ (run : Fixed) (history : List Event) (anew : is_refresh run.mode ≡ true) (some : 0 < run.parallel)
     (sound : IsSound (rows_of run)) (orderly : IsOrderly run history)
     (calm : has_problem (known_of run history) ≡ false) (quiet : IsQuiet (known_of run history)) (row : ℕ) (entry : Entry)
@@ -94,7 +82,7 @@ module _ (run : Fixed) (history : List Event) (anew : is_refresh run.mode ≡ tr
   provided =
       let missing = none_missing run anew (start_calm run history calm) in
       let second = (append_none _ _ (append_none _ _ missing).1).0 in
-      let unread = or_first_none (first_some unread_row (rows_of run)) _ (option_list_none _ second) in
+      let unread = or_first_none (first_some unread_row (rows_of run)) _ (list_none _ second) in
       has_provider entry reads (each_at (λ (one : Entry). unread_row one ≡ None) (rows_of run) row entry (first_none unread_row (rows_of run) unread) here)
 
   begun : was_begun history (op.Read (subject.Row row)) ≡ true

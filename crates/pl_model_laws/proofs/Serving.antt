@@ -1,9 +1,14 @@
 -- No lane is waited for, where nothing is out, due or over the limit and no problem stands.
 use Rattle.std.proofs.Common.{◌≡◌, ℕ, ◌<◌, ◌≤◌, Bool, true, false, not, ◌&&◌, ◌||◌, nat_lt, List, [], ◌∷◌, find, length, Option, Some, None, is_none, is_some, option_and_then, option_map, refl, sym, ◌∙◌, ap, subst, inl, inr, ◌⊎◌, arith}
-use Rattle.std.proofs.lemmas.Bool.Decides.{nat_tests}
 use Rattle.std.specs.List.{list_any}
+use Rattle.std.proofs.lemmas.Option.{same_Some}
+use Rattle.std.proofs.lemmas.Bool.{or_right}
+use Rattle.pl_lemmas.proofs.Truth.{and_right}
+use Rattle.pl_lemmas.proofs.Options.{some_there}
+use Rattle.pl_lemmas.proofs.Numbers.{same_number, less_true}
+use Rattle.pl_lemmas.proofs.Each.{Each}
 use Rattle.pl_value.specs.Inside.{any_field_unknown}
-use Rattle.pl_state.specs.Chain.{some_passes}
+use Rattle.pl_lemmas.specs.Words.{some_passes}
 use Rattle.pl_state.specs.declared.goal.Goal.{Goal}
 use Rattle.pl_events.specs.declared.event.Event.{Event}
 use Rattle.pl_events.specs.declared.operation.Op.{Op}
@@ -24,28 +29,20 @@ use Rattle.pl_model.specs.History.{known_of}
 use Rattle.pl_model.specs.Known.{Known, decided_goal, goal_at, has_problem, is_recorded}
 use Rattle.pl_model.specs.Legal.{IsOrderly}
 use Rattle.pl_model.specs.Rows.{source_of_goal}
-use Rattle.pl_model_laws.proofs.Configuring.{checked-paired, replied-begun}
-use Rattle.pl_model_laws.proofs.Growing.{numbered_below, run_of, same_number}
-use Rattle.pl_model_laws.proofs.Lanes.{begun-on, lane-begins, lane-sourced, lanes-each, lanes-have, on_begun, on_counted, source-begun, was_begun_on}
-use Rattle.pl_model_laws.proofs.Once.{and_right, equal_ops, history_of}
-use Rattle.pl_model_laws.proofs.Pairs.{Each}
+use Rattle.pl_model_stays.proofs.Configuring.{checked-paired, replied-begun}
+use Rattle.pl_model_stays.proofs.Growing.{numbered_below, run_of}
+use Rattle.pl_model_stays.proofs.Lanes.{begun-on, lane-begins, lane-sourced, lanes-each, lanes-have, on_begun, on_counted, source-begun, was_begun_on, lane-unready}
+use Rattle.pl_model_stays.proofs.Once.{equal_ops, history_of, both, never_both}
+use Rattle.pl_model_stays.proofs.Recorded.{recorded-held}
+use Rattle.pl_model_stays.proofs.Sourcing.{IsSourceThere, asked-source, is_check_config, ordinary-each}
+use Rattle.pl_model_stays.proofs.Standing.{answers_as}
+use Rattle.pl_model_stays.proofs.Staying.{any_more, same_source_self}
+use Rattle.pl_model_stays.proofs.Ticketing.{none-lost, none-out}
+use Rattle.pl_model_stays.proofs.Unknowns.{asked-known, check-provider, provider-checked}
+use Rattle.pl_model_stays.proofs.Waiting.{config_begun}
 use Rattle.pl_model_laws.proofs.Provided.{providers-provide}
-use Rattle.pl_model_laws.proofs.Recorded.{recorded-held}
 use Rattle.pl_model_laws.proofs.Replying.{config-came, lane-configured}
-use Rattle.pl_model_laws.proofs.Sourcing.{IsSourceThere, asked-source, is_check_config, ordinary-each}
-use Rattle.pl_model_laws.proofs.Standing.{answers_as, some_there}
-use Rattle.pl_model_laws.proofs.Staying.{any_more, same_source_self, some_same}
-use Rattle.pl_model_laws.proofs.Ticketing.{none-lost, none-out}
-use Rattle.pl_model_laws.proofs.Unknowns.{asked-known, check-provider, provider-checked}
-use Rattle.pl_model_laws.proofs.Waiting.{config_begun}
-use Rattle.pl_model_laws.proofs.Working.{both, each_named, lane-unready, never_both, no-configure, no-configure-row, no-operation}
-
-less_true : (a b : ℕ) → a < b → nat_lt a b ≡ true
-less_true a b h = grind (arith, nat_tests)
-
-or_second : (a b : Bool) → b ≡ true → (a || b) ≡ true
-or_second true b h = refl
-or_second false b h = h
+use Rattle.pl_model_laws.proofs.Working.{each_named, no-configure, no-configure-row, no-operation}
 
 -- an operation that is asked and that a lane is there for is ready on it
 ready_on : (known : Known) (about : Op) (lane : ℕ) → is_check_config about ≡ false → is_asked known about ≡ true
@@ -266,7 +263,7 @@ module _ (run : Fixed) (history : List Event) (orderly : IsOrderly run history)
             (ap (λ (lanes : List ℕ). not (list_any (is_coming history) lanes)) none)) fewer)
 
         start : (is_checked_lane known wanted (lane_count known.history) || (wants_lane known wanted && is_next_lane known (lane_count known.history))) ≡ true
-        start = or_second (is_checked_lane known wanted (lane_count known.history)) _
+        start = or_right (is_checked_lane known wanted (lane_count known.history)) _
             (both (wants_lane known wanted) _ wants_one (same_number (lane_count known.history)))
 
     -- what is over the limit is one of a goal whose provider has a lane
@@ -280,7 +277,7 @@ module _ (run : Fixed) (history : List Event) (orderly : IsOrderly run history)
             with_provider : (goal : Goal) → goal_at known n ≡ Some goal → (o : Option ℕ) → goal.provider ≡ o → option_map source.Goal o ≡ Some wanted
                 → (it : Goal) × (m : ℕ) × (goal_at known n ≡ Some it) × (it.provider ≡ Some m) × (wanted ≡ source.Goal m)
             with_provider goal is None own h = absurd (let e : None ≡ Some wanted = h in cc)
-            with_provider goal is (Some m) own h = (goal, m, is, own, sym (some_same (source.Goal m) wanted h))
+            with_provider goal is (Some m) own h = (goal, m, is, own, sym (same_Some (source.Goal m) wanted h))
 
             at : (o : Option Goal) → goal_at known n ≡ o → option_map source.Goal (option_and_then (λ (one : Goal). one.provider) o) ≡ Some wanted
                 → (it : Goal) × (m : ℕ) × (goal_at known n ≡ Some it) × (it.provider ≡ Some m) × (wanted ≡ source.Goal m)

@@ -3,18 +3,17 @@ use Rattle.std.proofs.Common.{◌≡◌, ℕ, zero, suc, ◌<◌, ◌≤◌, Boo
 use Rattle.std.proofs.lemmas.Bool.Decides.{nat_tests}
 use Rattle.std.proofs.Math.Seq.{take-append_seam}
 use Rattle.std.proofs.lemmas.List.{take-append-le}
-use Rattle.std.proofs.lemmas.Option.{get_or_from_slice_get, slice_get-get_or, slice_get_past, slice_get_within}
+use Rattle.std.proofs.lemmas.Option.{get_or_from_slice_get, slice_get-get_or, slice_get_past, slice_get_within, same_Some}
 use Rattle.std.proofs.lemmas.Slice.Eq.{bytes_eq-Decides}
 use Rattle.std.specs.List.{list_any}
+use Rattle.std.proofs.Math.Bool.{or-true}
+use Rattle.pl_lemmas.proofs.Each.{Each, each_append}
 use Rattle.pl_state.specs.References.{has_urn, keeps_urn, refs}
 use Rattle.pl_sound.specs.Sound.{IsSound, fault_at, first_unmet, is_met, own_wants, wants}
 use Rattle.pl_state.specs.declared.entry.Entry.{Entry}
 use Rattle.pl_state.specs.declared.fault.Missing.{Missing}
 use Rattle.pl_state.specs.declared.fault.Missing.TheVariants.{Twice}
-use Rattle.pl_model_laws.proofs.Pairs.{Each, each-append}
 use Rattle.pl_model_laws.specs.Apart.{KeepsApart}
-use Rattle.pl_model_laws.proofs.Growing.{or_true}
-use Rattle.pl_model_laws.proofs.Staying.{some_same}
 
 -- each of these wants is met by the rows before
 abbrev pub AreMet : List Entry → List Missing → Type 0
@@ -61,7 +60,7 @@ refers-more rows row back met = λ at one is. by at one is (which at (length row
     by at one is (inr (inl here)) =
         let found : slice_get (rows ++ row ∷ []) (length rows) ≡ Some one =
         subst (λ (n : ℕ). slice_get (rows ++ row ∷ []) n ≡ Some one) here is in
-        let same : row ≡ one = some_same row one (sym (get_seam rows row) ∙ found) in
+        let same : row ≡ one = same_Some row one (sym (get_seam rows row) ∙ found) in
         subst (λ (n : ℕ). AreMet (take n (rows ++ row ∷ [])) (refs one)) (sym here)
         (subst (λ (front : List Entry). AreMet front (refs one)) (sym (take-append_seam rows (row ∷ [])))
         (subst (λ (it : Entry). AreMet rows (refs it)) same met))
@@ -120,7 +119,7 @@ any_taken p rows i zero d before low h = absurd (omega arith)
 any_taken p [] i (suc j) d before low h = absurd (omega arith)
 any_taken p (row ∷ rows) zero (suc j) d before low h = rw h refl
 any_taken p (row ∷ rows) (suc i) (suc j) d before low h =
-    rw (any_taken p rows i j d (omega arith) (omega arith) h) (or_true (p row))
+    rw (any_taken p rows i j d (omega arith) (omega arith) h) (or-true (p row))
 
 keeps_of : (urn : List ℕ) (row : Entry) → row.doomed ≡ false → row.urn ≡ urn → keeps_urn urn row ≡ true
 keeps_of urn row stays same = rw stays ((bytes_eq-Decides row.urn urn).1 same)
@@ -180,5 +179,5 @@ sound-from rows back apart = λ at. by at (slice_get rows at) refl
         → option_and_then (λ (row : Entry). first_unmet (is_met (take at rows)) row) (slice_get rows at) ≡ None
     by at None is = subst (λ (o : Option Entry). option_and_then (λ (row : Entry). first_unmet (is_met (take at rows)) row) o ≡ None) (sym is) refl
     by at (Some row) is = subst (λ (o : Option Entry). option_and_then (λ (one : Entry). first_unmet (is_met (take at rows)) one) o ≡ None) (sym is)
-        (met_none (take at rows) row (each-append (λ (want : Missing). is_met (take at rows) want ≡ true) (own_wants row) (refs row)
+        (met_none (take at rows) row (each_append (λ (want : Missing). is_met (take at rows) want ≡ true) (own_wants row) (refs row)
         (own_met rows at row apart is) (back at row is)))

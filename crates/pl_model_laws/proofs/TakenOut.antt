@@ -1,30 +1,27 @@
 -- A row that was taken out stays so, and no row comes back.
-use Rattle.std.proofs.Common.{◌≡◌, ℕ, Bool, true, false, not, ◌&&◌, List, ◌∷◌, length, nat_lt, Some, refl, subst}
+use Rattle.std.proofs.Common.{◌≡◌, ℕ, Bool, true, false, not, ◌&&◌, List, ◌∷◌, length, nat_lt, Some, subst}
+use Rattle.pl_lemmas.proofs.Truth.{and_left, and_right, and_not}
 use Rattle.pl_events.specs.declared.event.Event.{Event}
+use Rattle.pl_decide.specs.Limited.{is_delete_first}
 use Rattle.pl_model.specs.declared.decided.Decided.{Decided}
 use Rattle.pl_model.specs.declared.fixed.Fixed.{Fixed}
 use Rattle.pl_model.specs.Run.{rows_of}
-use Rattle.pl_decide.specs.Limited.{is_delete_first}
-use Rattle.pl_model.specs.Claims.{is_row}
+use Rattle.pl_lemmas.specs.Words.{has_number, is_row}
+use Rattle.pl_lemmas.proofs.Lists.{numbered_passes}
 use Rattle.pl_model.specs.History.{known_of}
 use Rattle.pl_model.specs.Known.{Known, decided_goal}
 use Rattle.pl_model.specs.Legal.{IsOrderly}
-use Rattle.pl_model.specs.Recording.{has_number, removed_of}
+use Rattle.pl_model.specs.Recording.{removed_of}
 use Rattle.pl_model.specs.Rows.{is_deleted_first, is_left, is_taken_out, is_taken_over, was_removed}
-use Rattle.pl_model_laws.proofs.Claiming.{numbered_passes, passing_number}
-use Rattle.pl_model_laws.proofs.Leaving.{claimer_stays, left_made, left_parts, not_earlier, removed_stays, same_run}
-use Rattle.pl_model_laws.proofs.Once.{and_left, and_right, history_of, not_true}
-use Rattle.pl_model_laws.proofs.Removing.{claimed-then, later-before, later-now, removable-parts, removed-removable}
+use Rattle.pl_model_stays.proofs.Claiming.{passing_number}
+use Rattle.pl_model_stays.proofs.Once.{history_of, not_true, left_parts}
+use Rattle.pl_model_stays.proofs.Listing.{removable-parts}
+use Rattle.pl_model_laws.proofs.Leaving.{claimer_stays, left_made, not_earlier, removed_stays, same_run}
+use Rattle.pl_model_laws.proofs.Removing.{claimed-then, later-before, later-now, removed-removable}
 
 -- the claim of a goal that is deleted first
 abbrev is_first : ℕ → Decided → Bool
 is_first row one = is_delete_first one.decision && is_row one.claim row
-
--- a test that passes, and not another one
-both_made : (a b : Bool) → a ≡ true → b ≡ false → (a && not b) ≡ true
-both_made true false is none = refl
-both_made true true is none = absurd (let e : true ≡ false = none in cc)
-both_made false b is none = absurd (let e : false ≡ true = is in cc)
 
 module _ (run : Fixed) (event : Event) (past : List Event) (orderly : IsOrderly run (event ∷ past)) where
   abbrev before : Known
@@ -55,7 +52,7 @@ module _ (run : Fixed) (event : Event) (past : List Event) (orderly : IsOrderly 
       let removed : was_removed before row ≡ true = and_left (was_removed before row) (not (is_deleted_first before row)) h in
       let free : is_deleted_first before row ≡ false =
       not_true (is_deleted_first before row) (and_right (was_removed before row) (not (is_deleted_first before row)) h) in
-      both_made (was_removed after row) (is_deleted_first after row) (removed_stays run event past row removed)
+      and_not (was_removed after row) (is_deleted_first after row) (removed_stays run event past row removed)
       (not_earlier (is_deleted_first before row) (is_deleted_first after row) (first-before row removed) free)
 
   -- a row that is left was left before

@@ -1,30 +1,31 @@
 -- The URN of a row that a recorded goal took over turns into that of a recorded goal.
-use Rattle.std.proofs.Common.{◌≡◌, ℕ, ◌==◌, ◌<◌, Bool, true, false, not, ◌||◌, if◌then◌else◌, List, [], ◌∷◌, get_or, nat_lt, bytes_eq, slice_get, Option, Some, None, is_some, refl, sym, ◌∙◌, ap, subst, arith, option_and_then}
-use Rattle.std.proofs.lemmas.Bool.Decides.{nat_tests}
-use Rattle.std.proofs.lemmas.Option.{get_or_from_slice_get, slice_get_within}
-use Rattle.pl_state.specs.Chain.{some_passes}
+use Rattle.std.proofs.Common.{◌≡◌, ℕ, ◌==◌, Bool, true, false, not, ◌||◌, if◌then◌else◌, List, [], ◌∷◌, bytes_eq, slice_get, Option, Some, None, is_some, refl, sym, ◌∙◌, ap, subst, option_and_then}
+use Rattle.std.proofs.lemmas.Option.{same_Some}
+use Rattle.std.proofs.Math.Bool.{or-true}
+use Rattle.pl_lemmas.proofs.Options.{some_there}
+use Rattle.pl_lemmas.proofs.Numbers.{same_number, equal_numbers}
+use Rattle.pl_lemmas.specs.Words.{has_number, is_row, only_if, some_passes}
 use Rattle.pl_state.specs.declared.entry.Entry.{Entry}
 use Rattle.pl_state.specs.declared.goal.Goal.{Goal}
 use Rattle.pl_events.specs.declared.event.Event.{Event}
+use Rattle.pl_decide.specs.Limited.{is_create_first}
 use Rattle.pl_model.specs.declared.decided.Decided.{Decided}
 use Rattle.pl_model.specs.declared.fixed.Fixed.{Fixed}
 use Rattle.pl_model.specs.Run.{rows_of}
-use Rattle.pl_decide.specs.Limited.{is_create_first}
-use Rattle.pl_model.specs.Claims.{claimed_row, claimer_of, is_row}
+use Rattle.pl_model.specs.Claims.{claimed_row, claimer_of}
 use Rattle.pl_model.specs.Entries.{Turning, turning_of, turnings}
 use Rattle.pl_model.specs.History.{known_of}
 use Rattle.pl_model.specs.Known.{Known, claim_row, decided_goal, goal_at, is_recorded}
 use Rattle.pl_model.specs.Legal.{IsOrderly}
-use Rattle.pl_model.specs.Recording.{has_number, only_if, recorded_of}
+use Rattle.pl_model.specs.Recording.{recorded_of}
 use Rattle.pl_model.specs.Rows.{is_taken_over, stands_beside}
+use Rattle.pl_model_stays.proofs.Claiming.{claims-allowed, was-made, where_found}
+use Rattle.pl_model_stays.proofs.Growing.{run_of}
+use Rattle.pl_model_stays.proofs.Once.{not_true}
+use Rattle.pl_model_stays.proofs.Recorded.{recorded-held}
+use Rattle.pl_model_stays.proofs.Standing.{claim-of-decided}
 use Rattle.pl_model_laws.specs.Apart.{KeepsApart}
-use Rattle.pl_model_laws.proofs.Claiming.{claims-allowed, was-made, where_found}
-use Rattle.pl_model_laws.proofs.Growing.{equal_numbers, or_true, run_of, same_number}
-use Rattle.pl_model_laws.proofs.Leaving.{claimed-once, neither}
-use Rattle.pl_model_laws.proofs.Once.{not_true}
-use Rattle.pl_model_laws.proofs.Recorded.{recorded-held}
-use Rattle.pl_model_laws.proofs.Standing.{claim-of-decided, some_there}
-use Rattle.pl_model_laws.proofs.Staying.{some_same}
+use Rattle.pl_model_laws.proofs.Leaving.{claimed-once, neither, same_row as rows_same}
 use Rattle.pl_model_laws.proofs.Turning.{IsTurning, other-turn, own-turn, turned-of, turned_at, turned_by, turned_of, turning_parts}
 
 -- where one of two holds and the second does not, the first does
@@ -39,26 +40,6 @@ claimed_parts : (run : Fixed) (claim : Option ℕ) (entry : Entry) → claimed_r
     → (row : ℕ) × (is_row claim row ≡ true) × (slice_get (rows_of run) row ≡ Some entry)
 claimed_parts run None entry h = absurd (let e : None ≡ Some entry = h in cc)
 claimed_parts run (Some row) entry h = (row, same_number row, h)
-
--- two rows that are to stay and have one URN are the same
-rows_same : (rows : List Entry) → KeepsApart rows → (a b : ℕ) (first second : Entry) → slice_get rows a ≡ Some first
-    → slice_get rows b ≡ Some second → first.doomed ≡ false → second.doomed ≡ false → first.urn ≡ second.urn → a ≡ b
-rows_same rows apart a b first second at too stays also same = by (nat_lt a b) refl (nat_lt b a) refl
-  where
-    never : (i j : ℕ) (one other : Entry) → nat_lt i j ≡ true → slice_get rows i ≡ Some one → slice_get rows j ≡ Some other
-        → one.doomed ≡ false → other.doomed ≡ false → one.urn ≡ other.urn → ⊥
-    never i j one other less here there left right alike =
-        let before : i < j = grind (arith, nat_tests) in
-        let one_is : get_or rows i one ≡ one = get_or_from_slice_get rows i one one here in
-        let other_is : get_or rows j one ≡ other = get_or_from_slice_get rows j other one there in
-        apart i j one before (slice_get_within rows j other there)
-        (ap (λ (row : Entry). row.doomed) one_is ∙ left) (ap (λ (row : Entry). row.doomed) other_is ∙ right)
-        (ap (λ (row : Entry). row.urn) one_is ∙ alike ∙ sym (ap (λ (row : Entry). row.urn) other_is))
-
-    by : (less : Bool) → nat_lt a b ≡ less → (more : Bool) → nat_lt b a ≡ more → a ≡ b
-    by true is more too_is = absurd (never a b first second is at too stays also same)
-    by false is true too_is = absurd (never b a second first too_is too at also stays (sym same))
-    by false is false too_is = grind (arith, nat_tests)
 
 -- ---- the turns of a history
 
@@ -85,7 +66,7 @@ AreRecorded known numbers = (n : ℕ) → has_number numbers n ≡ true → is_r
 
 -- and so are the older of them, and the newest
 older_recorded : (known : Known) (newest : ℕ) (older : List ℕ) → AreRecorded known (newest ∷ older) → AreRecorded known older
-older_recorded known newest older only n h = only n (ap (λ (b : Bool). (newest == n) || b) h ∙ or_true (newest == n))
+older_recorded known newest older only n h = only n (ap (λ (b : Bool). (newest == n) || b) h ∙ or-true (newest == n))
 
 newest_recorded : (known : Known) (newest : ℕ) (older : List ℕ) → AreRecorded known (newest ∷ older) → is_recorded known newest ≡ true
 newest_recorded known newest older only = only newest (ap (λ (b : Bool). b || has_number older newest) (same_number newest))
@@ -135,7 +116,7 @@ module _ (run : Fixed) (history : List Event) (all_decided : AllDecided run hist
       let its = turning_row number turning recorded turn in
       let allowed = claims-allowed run history number its.0 its.1 (was-made run history number its.0 its.2) its.3 in
       let its_stays : turn.row.doomed ≡ false =
-      ap (λ (it : Entry). it.doomed) (some_same turn.row allowed.entry (sym its.4 ∙ allowed.at)) ∙ allowed.stays in
+      ap (λ (it : Entry). it.doomed) (same_Some turn.row allowed.entry (sym its.4 ∙ allowed.at)) ∙ allowed.stays in
       let same_row : its.1 ≡ row =
       rows_same (rows_of run) apart its.1 row turn.row entry its.4 at its_stays stays (sym turn.from ∙ sym same) in
       never its.0 its.2 (subst (λ (n : ℕ). is_row its.0.claim n ≡ true) same_row its.3))
@@ -148,7 +129,7 @@ module _ (run : Fixed) (history : List Event) (all_decided : AllDecided run hist
     row_stays : entry.doomed ≡ false
     row_stays =
         let allowed = claims-allowed run history number one row (was-made run history number one decided) claims in
-        ap (λ (it : Entry). it.doomed) (some_same entry allowed.entry (sym at ∙ allowed.at)) ∙ allowed.stays
+        ap (λ (it : Entry). it.doomed) (same_Some entry allowed.entry (sym at ∙ allowed.at)) ∙ allowed.stays
 
     -- no other goal turns the row's URN
     others_turn : (other : ℕ) → is_recorded known other ≡ true → (other == number) ≡ false → turned_at (turning_of known other) entry.urn ≡ entry.urn

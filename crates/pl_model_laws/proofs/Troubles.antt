@@ -1,35 +1,38 @@
 -- What is refused, and what is to go and lacks its provider, is a problem.
 use Rattle.std.proofs.Common.{◌≡◌, ℕ, ◌≤◌, ◌<◌, Bool, true, false, not, ◌&&◌, ◌||◌, if◌then◌else◌, List, [], ◌∷◌, length, nat_lt, slice_get, Option, Some, None, refl, sym, ◌∙◌, ap, subst, arith, option_map, option_and_then}
 use Rattle.std.proofs.lemmas.Bool.Decides.{nat_tests}
-use Rattle.std.proofs.lemmas.Option.{slice_get_within}
-use Rattle.pl_state.specs.Chain.{some_passes}
+use Rattle.std.proofs.lemmas.Option.{slice_get_within, same_Some}
+use Rattle.std.proofs.lemmas.Bool.{or_right}
+use Rattle.pl_lemmas.proofs.Truth.{and_left, and_right}
+use Rattle.pl_lemmas.proofs.Options.{mapped_none}
+use Rattle.pl_lemmas.specs.Words.{first_some, has_number, is_row, numbered, some_passes}
+use Rattle.pl_lemmas.proofs.Lists.{numbered_passes}
+use Rattle.pl_lemmas.proofs.Numbers.{numbered_there}
 use Rattle.pl_state.specs.declared.entry.Entry.{Entry}
 use Rattle.pl_events.specs.declared.event.Event.{Event}
 use Rattle.pl_decide.specs.declared.decision.Decision.{Decision}
 use Rattle.pl_decide.specs.declared.decision.Decision.TheVariants.{Refused}
 use Rattle.pl_decide.specs.declared.problem.Problem.{Problem}
 use Rattle.pl_decide.specs.declared.problem.Problem.TheVariants as problem
+use Rattle.pl_decide.specs.Limited.{is_create_first, is_delete_first, is_refused}
 use Rattle.pl_model.specs.declared.decided.Decided.{Decided}
 use Rattle.pl_model.specs.declared.fixed.Fixed.{Fixed}
 use Rattle.pl_model.specs.Run.{is_preview, rows_of}
-use Rattle.pl_model.specs.Recording.{has_number}
-use Rattle.pl_decide.specs.Limited.{is_create_first, is_delete_first, is_refused}
-use Rattle.pl_model.specs.Claims.{chain_of_goal, claimer_of, first_some, is_chained, is_claimed, is_row, numbered}
+use Rattle.pl_model.specs.Claims.{chain_of_goal, claimer_of, is_chained, is_claimed}
 use Rattle.pl_model.specs.History.{known_of}
 use Rattle.pl_model.specs.Known.{Known, decided_goal, has_problem}
 use Rattle.pl_model.specs.Legal.{IsOrderly}
 use Rattle.pl_model.specs.Problems.{has_deleted, is_claimed_beside, lacking_in, lacks_provider, missing_provider, refusal_in}
 use Rattle.pl_model.specs.Rows.{goes_now, is_left, is_marked, is_replaced, row_at, row_numbers, stands_beside, takes_along}
+use Rattle.pl_model_stays.proofs.Claiming.{claims-allowed, numbered_behind, passing_number, was-made, where_found}
+use Rattle.pl_model_stays.proofs.Growing.{Grown, numbered_below, run_of, decided-grown}
+use Rattle.pl_model_stays.proofs.Once.{both}
 use Rattle.pl_model_laws.specs.Apart.{KeepsApart}
 use Rattle.pl_model_laws.proofs.Along.{along-so, along-there, along-told}
-use Rattle.pl_model_laws.proofs.Calm.{calm-before, decided-grown, first_none, newly-none, no-decision, no-provider, none-decided, option_map_none, range_each}
-use Rattle.pl_model_laws.proofs.Claiming.{claims-allowed, numbered_behind, numbered_passes, numbered_there, passing_number, was-made, where_found}
+use Rattle.pl_model_laws.proofs.Calm.{calm-before, first_none, newly-none, no-decision, no-provider, none-decided, range_each}
 use Rattle.pl_model_laws.proofs.Going.{provided-later}
-use Rattle.pl_model_laws.proofs.Growing.{Grown, numbered_below, or_true, run_of}
 use Rattle.pl_model_laws.proofs.Leaving.{claimer_is, claimer_parts, known-apart}
-use Rattle.pl_model_laws.proofs.Once.{and_left, and_right}
 use Rattle.pl_model_laws.proofs.Removing.{Later, grown_behind, later-before, later-now}
-use Rattle.pl_model_laws.proofs.Staying.{some_same}
 
 -- ---- refusals
 
@@ -57,19 +60,10 @@ refused-trouble run (event ∷ past) n one calm h =
 
 -- ---- tests
 
--- both of two
-pub and_made : (a b : Bool) → a ≡ true → b ≡ true → (a && b) ≡ true
-and_made true b first second = second
-and_made false b first second = absurd (let e : false ≡ true = first in cc)
-
 -- one of two
 pub or_first : (a b : Bool) → a ≡ true → (a || b) ≡ true
 or_first true b h = refl
 or_first false b h = absurd (let e : false ≡ true = h in cc)
-
--- the other of two
-pub or_second : (a b : Bool) → b ≡ true → (a || b) ≡ true
-or_second a b h = ap (λ (it : Bool). a || it) h ∙ or_true a
 
 -- ---- rows that lack their provider
 
@@ -97,7 +91,7 @@ provider_there known one row entry none at goes =
     has_provider known one row entry
     (range_each (λ (it : ℕ). lacking_in known one it ≡ None) 0 (length (rows_of known.run)) row (omega arith) (omega arith)
     (first_none (lacking_in known one) (row_numbers known)
-    (option_map_none problem.MissingProvider (first_some (lacking_in known one) (row_numbers known)) none)))
+    (mapped_none problem.MissingProvider (first_some (lacking_in known one) (row_numbers known)) none)))
     at goes
 
 module _ (run : Fixed) (history : List Event) (n row : ℕ) (one : Decided)
@@ -148,7 +142,7 @@ module _ (run : Fixed) (history : List Event) (n row : ℕ) (one : Decided)
       let first : c ≤ n = claimed_first c other found.1 claims chained in
       let below : n < length (known_of run past).decided = numbered_below (known_of run past).decided n one there in
       let own = numbered_there (known_of run past).decided c (omega arith) in
-      let same : own.0 ≡ other = some_same own.0 other (sym (later.decisions c own.0 own.1) ∙ found.1) in
+      let same : own.0 ≡ other = same_Some own.0 other (sym (later.decisions c own.0 own.1) ∙ found.1) in
       let at : decided_goal (known_of run past) c ≡ Some other = own.1 ∙ ap (λ (it : Decided). Some it) same in
       let claimer : claimer_of (known_of run past).decided row ≡ Some c =
       claimer_is run (known_of run past).decided c row other (known-apart run past) at claims in
@@ -177,9 +171,9 @@ module _ (run : Fixed) (history : List Event) (n row : ℕ) (one : Decided)
         let at_then : row_at told_then row ≡ Some entry =
         ap (λ (fixed : Fixed). slice_get (rows_of fixed) row) (run_of run past ∙ sym (run_of run history)) ∙ at in
         or_first (takes_along told_then row one) (chained_then && is_claimed_beside told_then row)
-        (and_made (is_delete_first one.decision) (is_row one.claim row || (chained_then && goes_now told_then row)) deletes
-        (or_second (is_row one.claim row) (chained_then && goes_now told_then row)
-        (and_made chained_then (goes_now told_then row) chained (along-so told_then row entry at_then goes))))
+        (both (is_delete_first one.decision) (is_row one.claim row || (chained_then && goes_now told_then row)) deletes
+        (or_right (is_row one.claim row) (chained_then && goes_now told_then row)
+        (both chained_then (goes_now told_then row) chained (along-so told_then row entry at_then goes))))
 
     -- a row of the chain that is marked later
     marked_later : goes_now known row ≡ true → (b : Bool) → is_marked_base known ≡ b → has_number (chain_of_goal run one) row ≡ true
@@ -188,11 +182,11 @@ module _ (run : Fixed) (history : List Event) (n row : ℕ) (one : Decided)
         let base : is_marked_base told_then ≡ true =
         ap (λ (fixed : Fixed). some_passes (λ (it : Entry). it.doomed) (slice_get (rows_of fixed) row))
         (run_of run past ∙ sym (run_of run history)) ∙ is in
-        chain_taken along now (or_second (not (is_claimed told_then.decided row)) (is_marked told_then row)
+        chain_taken along now (or_right (not (is_claimed told_then.decided row)) (is_marked told_then row)
         (or_first (is_marked_base told_then) (is_replaced told_then row) base))
     marked_later along false is chained now h =
-        or_second (takes_along told_then row one) (chained_then && is_claimed_beside told_then row)
-        (and_made chained_then (is_claimed_beside told_then row) now (beside_then past later there chained h))
+        or_right (takes_along told_then row one) (chained_then && is_claimed_beside told_then row)
+        (both chained_then (is_claimed_beside told_then row) now (beside_then past later there chained h))
 
     -- a row that nobody claims later
     unclaimed_then : (b : Bool) → is_claimed told_then.decided row ≡ b → is_claimed known.decided row ≡ false → not b ≡ true
@@ -216,7 +210,7 @@ module _ (run : Fixed) (history : List Event) (n row : ℕ) (one : Decided)
             → has_deleted told_then one row ≡ true
         by true is h =
             or_first (takes_along told_then row one) (chained_then && is_claimed_beside told_then row)
-            (and_made (is_delete_first one.decision) (is_row one.claim row || (chained_then && goes_now told_then row)) deletes
+            (both (is_delete_first one.decision) (is_row one.claim row || (chained_then && goes_now told_then row)) deletes
             (or_first (is_row one.claim row) (chained_then && goes_now told_then row) is))
         by false is h =
             let chain : has_number (chain_of_goal known.run one) row ≡ true =

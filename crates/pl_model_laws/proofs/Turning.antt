@@ -4,12 +4,12 @@ use Rattle.std.proofs.lemmas.List.{map-id, reverse-append}
 use Rattle.std.proofs.lemmas.List.Elements.{filter_map-append}
 use Rattle.std.proofs.lemmas.Slice.Eq.{bytes_eq-Decides}
 use Rattle.std.specs.List.{cons_option}
+use Rattle.std.proofs.lemmas.Option.{same_Some}
 use Rattle.pl_state.specs.declared.entry.Entry.{Entry}
 use Rattle.pl_state.specs.declared.goal.Goal.{Goal}
 use Rattle.pl_model.specs.Entries.{Turning, turned, turned_entry, turned_reference, turning_of, turnings}
 use Rattle.pl_model.specs.Known.{Known, claim_row, goal_at}
 use Rattle.pl_model.specs.Recording.{recorded_of}
-use Rattle.pl_model_laws.proofs.Staying.{some_same}
 
 -- ---- rows under all turns
 
@@ -143,7 +143,7 @@ turning_parts known number turning h = by (goal_at known number) refl (claim_row
     named : (goal : Goal) (row : Entry) (b : Bool) → (if b then None else Some (turning_to row goal)) ≡ Some turning
         → turning_to row goal ≡ turning
     named goal row true h = absurd (let e : None ≡ Some turning = h in cc)
-    named goal row false h = some_same (turning_to row goal) turning h
+    named goal row false h = same_Some (turning_to row goal) turning h
 
     by : (of : Option Goal) → goal_at known number ≡ of → (over : Option Entry) → claim_row known number ≡ over
         → option_and_then (λ (goal : Goal). option_and_then (λ (row : Entry).

@@ -3,6 +3,10 @@
 use Rattle.std.proofs.Common.{◌≡◌, ◌≢◌, ℕ, ◌==◌, Bool, true, false, ◌||◌, List, [], ◌∷◌, AllPairs, reverse, Option, Some, None, refl, sym, ◌∙◌, ap, subst, slice_get}
 use Rattle.std.specs.Bool.{beq}
 use Rattle.std.specs.List.{cons_option}
+use Rattle.std.proofs.Math.Bool.{or-true}
+use Rattle.std.proofs.lemmas.Option.{same_Some}
+use Rattle.pl_lemmas.proofs.Numbers.{same_number}
+use Rattle.pl_lemmas.proofs.Each.{Each, Pairwise}
 use Rattle.pl_state.specs.Kinds.{is_provider_goal, is_provider_row}
 use Rattle.pl_state.specs.declared.entry.Entry.{Entry}
 use Rattle.pl_state.specs.declared.goal.Goal.{Goal}
@@ -10,23 +14,22 @@ use Rattle.pl_events.specs.declared.event.Event.{Event}
 use Rattle.pl_model.specs.declared.decided.Decided.{Decided}
 use Rattle.pl_model.specs.declared.fixed.Fixed.{Fixed}
 use Rattle.pl_model.specs.Run.{is_preview, rows_of}
-use Rattle.pl_model.specs.Recording.{has_number, recorded_by, recorded_of}
-use Rattle.pl_model.specs.Claims.{is_row}
+use Rattle.pl_lemmas.specs.Words.{has_number, is_row}
+use Rattle.pl_model.specs.Recording.{recorded_by, recorded_of}
 use Rattle.pl_model.specs.Entries.{Turning, turning_of, turnings}
 use Rattle.pl_model.specs.History.{known_of}
 use Rattle.pl_model.specs.Known.{Known, decided_goal, goal_at, is_recorded}
 use Rattle.pl_model.specs.Legal.{IsOrderly}
 use Rattle.pl_model.specs.Rows.{is_left, is_marked, is_taken_over}
+use Rattle.pl_model_stays.proofs.Claiming.{claims-allowed, was-made}
+use Rattle.pl_model_stays.proofs.Once.{history_of}
+use Rattle.pl_model_stays.proofs.Pairs.{pairs-all, pairs-mapped, pairs-turned}
+use Rattle.pl_model_stays.proofs.Recorded.{recorded-held, recording-held, recording-new}
+use Rattle.pl_model_stays.proofs.Staying.{recorded-as}
 use Rattle.pl_model_laws.specs.Apart.{KeepsApart}
-use Rattle.pl_model_laws.proofs.Claiming.{claims-allowed, was-made}
 use Rattle.pl_model_laws.proofs.Freed.{free-recorded}
-use Rattle.pl_model_laws.proofs.Growing.{or_true, same_number}
 use Rattle.pl_model_laws.proofs.Leaving.{claimed-once}
-use Rattle.pl_model_laws.proofs.Once.{history_of}
-use Rattle.pl_model_laws.proofs.Pairs.{Each, Pairwise, pairs-all, pairs-mapped, pairs-turned}
-use Rattle.pl_model_laws.proofs.Recorded.{recorded-held, recording-held, recording-new}
 use Rattle.pl_model_laws.proofs.Removing.{Later, later-before, later-now, unrecorded-left, unrecorded-unmarked}
-use Rattle.pl_model_laws.proofs.Staying.{recorded-as, some_same}
 use Rattle.pl_model_laws.proofs.TakenOver.{AllDecided, AreRecorded, all-decided, first-turned, first_true, taker, turning_row}
 use Rattle.pl_model_laws.proofs.Turning.{other-turn, turned-of, turned_at, turned_by, turned_of, turning_parts}
 
@@ -60,7 +63,7 @@ module _ (run : Fixed) (history : List Event) (real : is_preview run.mode ≡ fa
         let urn : goal.urn ≡ turn.row.urn = same ∙ turn.from in
         let there = recording-held run event past other orderly_then records in
         let own : decided_goal (known_of run past) other ≡ Some its.0 =
-        there.2.decided ∙ ap (λ (it : Decided). Some it) (some_same there.1 its.0 (sym (later.decisions other there.1 there.2.decided) ∙ its.2)) in
+        there.2.decided ∙ ap (λ (it : Decided). Some it) (same_Some there.1 its.0 (sym (later.decisions other there.1 there.2.decided) ∙ its.2)) in
         let unrecorded : has_number (recorded_of past) other ≡ false =
         recording-new run event.seat past event.what other orderly_then.0 orderly_then.1 records in
         let missing : is_recorded (known_of run past) other ≡ false = recorded-as run past other ∙ unrecorded in
@@ -69,8 +72,8 @@ module _ (run : Fixed) (history : List Event) (real : is_preview run.mode ≡ fa
         let unmarked : is_marked (known_of run past) its.1 ≡ false =
         unrecorded-unmarked run past other its.1 its.0 own its.3 orderly_then.0 missing in
         let free = free-recorded run real apart past number orderly_then.0 recorded in
-        let goal_same : free.goal ≡ goal = some_same free.goal goal (sym (later.goals number free.goal free.stands) ∙ stands) in
-        let one_same : free.one ≡ one = some_same free.one one (sym (later.decisions number free.one free.decided) ∙ decided) in
+        let goal_same : free.goal ≡ goal = same_Some free.goal goal (sym (later.goals number free.goal free.stands) ∙ stands) in
+        let one_same : free.one ≡ one = same_Some free.one one (sym (later.decisions number free.one free.decided) ∙ decided) in
         free.none its.1 turn.row its.4 left unmarked
         (ap (λ (it : Decided). is_row it.claim its.1) one_same ∙ not_own recorded other its.0 its.1 its.2 its.3 unrecorded)
         (sym urn ∙ sym (ap (λ (it : Goal). it.urn) goal_same))
@@ -136,7 +139,7 @@ module _ (run : Fixed) (history : List Event) (real : is_preview run.mode ≡ fa
       let allowed = claims-allowed run history own.number own.one row made own.claims in
       let provider : is_provider_goal made.goal ≡ true =
       alike_true (is_provider_goal made.goal) (is_provider_row allowed.entry) allowed.alike
-      (ap (λ (it : Entry). is_provider_row it) (some_same allowed.entry entry (sym allowed.at ∙ at)) ∙ provides) in
+      (ap (λ (it : Entry). is_provider_row it) (same_Some allowed.entry entry (sym allowed.at ∙ at)) ∙ provides) in
       let turned : turned_of known (recorded_of history) entry.urn ≡ made.goal.urn =
       stays_turned row entry at own.number made.goal own.one made.stands own.decided own.claims history (later-now run history) orderly
       (sym (recorded-as run history own.number) ∙ own.recorded) in (
@@ -168,10 +171,10 @@ module _ (run : Fixed) (history : List Event) (real : is_preview run.mode ≡ fa
         let recorded : has_number (recorded_of past) number ≡ true = within number (rw (same_number number) refl) in
         let there = recorded-held run history number orderly (are_recorded past later number recorded) in
         let turn = turning_parts known number first is in
-        let own : turn.goal ≡ there.0 = some_same turn.goal there.0 (sym turn.stands ∙ there.2.stands) in
+        let own : turn.goal ≡ there.0 = same_Some turn.goal there.0 (sym turn.stands ∙ there.2.stands) in
         never_turned number there.0 there.1 there.2.stands there.2.decided event past later orderly_then recorded other records is_there second too
         (ap (λ (goal : Goal). goal.urn) (sym own) ∙ sym turn.to ∙ same),
-    apart_from event past later orderly_then other records is_there numbers (λ n has. within n (rw has (or_true (number == n)))),
+    apart_from event past later orderly_then other records is_there numbers (λ n has. within n (rw has (or-true (number == n)))),
   )
 
   turns_apart : (past : List Event) → Later run past known → IsOrderly run past

@@ -1,18 +1,19 @@
 -- What a row refers to, kind by kind and turned, and which rows it names so.
-use Rattle.std.proofs.Common.{◌≡◌, Bool, true, false, ◌&&◌, List, [], ◌∷◌, ◌++◌, map, ℕ, Option, Some, None, refl, sym, ◌∙◌, ap, ap₂, subst, option_map}
-use Rattle.std.specs.List.{flat_map, list_all, list_any}
+use Rattle.std.proofs.Common.{◌≡◌, Bool, true, false, ◌&&◌, List, ◌∷◌, ◌++◌, map, ℕ, Option, Some, None, refl, sym, ◌∙◌, ap, ap₂, subst, option_map, []}
+use Rattle.std.specs.List.{list_all, list_any}
+use Rattle.pl_lemmas.proofs.Each.{Each, each_always, each_append}
 use Rattle.pl_reference.specs.declared.reference.ProviderRef.{ProviderRef}
-use Rattle.pl_state.specs.References.{finds_references, has_urn, is_among, is_provider, meets, names_row, optional_refs, option_list, property_urns, refs}
+use Rattle.pl_lemmas.specs.Words.{option_list}
+use Rattle.pl_state.specs.References.{finds_references, has_urn, is_among, is_provider, meets, names_row, optional_refs, property_urns, refs}
 use Rattle.pl_sound.specs.Sound.{is_met}
 use Rattle.pl_state.specs.declared.entry.Entry.{Entry}
 use Rattle.pl_state.specs.declared.fault.Missing.{Missing}
 use Rattle.pl_state.specs.declared.fault.Missing.TheVariants.{Twice, Parent, Provider, Dependency, DeletedWith}
-use Rattle.pl_model_laws.proofs.Pairs.{Each, each-append}
+use Rattle.pl_model.specs.Entries.{Turning}
+use Rattle.pl_model_stays.proofs.Pairs.{each_map, each_flat, each_front, each_back, each_unflat, each_names}
 use Rattle.pl_model_laws.proofs.Referring.{MeetsReferences, further_of}
 use Rattle.pl_model_laws.proofs.Sounding.{AreMet}
 use Rattle.pl_model_laws.proofs.Turning.{IsTurned, Keyed, keyed_by, turned_by}
-use Rattle.pl_model.specs.Entries.{Turning}
-use Rattle.pl_model_laws.proofs.Growing.{or_true}
 
 -- ---- wants by their kinds
 
@@ -23,14 +24,6 @@ each_all p (x ∷ xs) h = by (p x) refl h (each_all p xs)
     by : (b : Bool) → p x ≡ b → (b && list_all p xs) ≡ true → (list_all p xs ≡ true → Each (λ y. p y ≡ true) xs) → Each (λ y. p y ≡ true) (x ∷ xs)
     by true is h rest = (is, rest h)
     by false is h rest = absurd (let e : false ≡ true = h in cc)
-
-pub each_map : {X Y : Type 0} (f : X → Y) (P : Y → Type 0) (xs : List X) → Each (λ x. P (f x)) xs → Each P (map f xs)
-each_map f P [] h = tt
-each_map f P (x ∷ xs) h = (h.0, each_map f P xs h.1)
-
-pub each_flat : {X Y : Type 0} (f : X → List Y) (P : Y → Type 0) (xs : List X) → Each (λ x. Each P (f x)) xs → Each P (flat_map f xs)
-each_flat f P [] h = tt
-each_flat f P (x ∷ xs) h = each-append P (f x) (flat_map f xs) h.0 (each_flat f P xs h.1)
 
 -- the references of a row are met kind by kind
 pub record MeetsKinds (before : List Entry) (row : Entry) : Type 0 where
@@ -47,30 +40,14 @@ optional_met before want (Some x) h = (h x refl, tt)
 
 pub met_by_kinds : (before : List Entry) (row : Entry) → MeetsKinds before row → AreMet before (refs row)
 met_by_kinds before row h =
-    each-append (λ (want : Missing). is_met before want ≡ true) (optional_refs Parent row.parent) _ (optional_met before Parent row.parent h.parent)
-    (each-append (λ (want : Missing). is_met before want ≡ true) (optional_refs Provider row.provider) _ (optional_met before Provider row.provider h.provider)
-    (each-append (λ (want : Missing). is_met before want ≡ true) (map Dependency row.dependencies) _
+    each_append (λ (want : Missing). is_met before want ≡ true) (optional_refs Parent row.parent) _ (optional_met before Parent row.parent h.parent)
+    (each_append (λ (want : Missing). is_met before want ≡ true) (optional_refs Provider row.provider) _ (optional_met before Provider row.provider h.provider)
+    (each_append (λ (want : Missing). is_met before want ≡ true) (map Dependency row.dependencies) _
     (each_map Dependency (λ (want : Missing). is_met before want ≡ true) row.dependencies h.dependencies)
-    (each-append (λ (want : Missing). is_met before want ≡ true) (map Dependency (property_urns row.property_dependencies)) (optional_refs DeletedWith row.deleted_with)
+    (each_append (λ (want : Missing). is_met before want ≡ true) (map Dependency (property_urns row.property_dependencies)) (optional_refs DeletedWith row.deleted_with)
     (each_map Dependency (λ (want : Missing). is_met before want ≡ true) (property_urns row.property_dependencies)
     (each_flat (λ (pair : List ℕ × List (List ℕ)). pair.1) (λ urn. list_any (has_urn urn) before ≡ true) row.property_dependencies h.property_dependencies))
     (optional_met before DeletedWith row.deleted_with h.deleted_with))))
-
-pub each_front : {X : Type 0} (P : X → Type 0) (xs ys : List X) → Each P (xs ++ ys) → Each P xs
-each_front P [] ys h = tt
-each_front P (x ∷ xs) ys h = (h.0, each_front P xs ys h.1)
-
-pub each_back : {X : Type 0} (P : X → Type 0) (xs ys : List X) → Each P (xs ++ ys) → Each P ys
-each_back P [] ys h = h
-each_back P (x ∷ xs) ys h = each_back P xs ys h.1
-
-pub each_unmap : {X Y : Type 0} (f : X → Y) (P : Y → Type 0) (xs : List X) → Each P (map f xs) → Each (λ x. P (f x)) xs
-each_unmap f P [] h = tt
-each_unmap f P (x ∷ xs) h = (h.0, each_unmap f P xs h.1)
-
-pub each_unflat : {X Y : Type 0} (f : X → List Y) (P : Y → Type 0) (xs : List X) → Each P (flat_map f xs) → Each (λ x. Each P (f x)) xs
-each_unflat f P [] h = tt
-each_unflat f P (x ∷ xs) h = (each_front P (f x) (flat_map f xs) h, each_unflat f P xs (each_back P (f x) (flat_map f xs) h))
 
 one_met : {X : Type 0} (before : List Entry) (want : X → Missing) (o : Option X) → AreMet before (optional_refs want o)
     → (x : X) → o ≡ Some x → is_met before (want x) ≡ true
@@ -115,20 +92,16 @@ abbrev pub IsReference : Missing → Type 0
 IsReference (Twice urn) = ⊥
 IsReference _ = Unit
 
-each_is : {X : Type 0} (P : X → Type 0) → ((x : X) → P x) → (xs : List X) → Each P xs
-each_is P all [] = tt
-each_is P all (x ∷ xs) = (all x, each_is P all xs)
-
 -- what holds of each kind of reference holds of each of a row
 pub each_provider : (P : Missing → Type 0) (row : Entry) → ((urn : List ℕ) → P (Parent urn)) → ((urn : List ℕ) → P (Dependency urn))
     → ((urn : List ℕ) → P (DeletedWith urn)) → ((reference : ProviderRef) → row.provider ≡ Some reference → P (Provider reference))
     → Each P (refs row)
 each_provider P row parent dependency deleter provider =
-    each-append P (optional_refs Parent row.parent) _ (optional Parent row.parent (λ urn is. parent urn))
-    (each-append P (optional_refs Provider row.provider) _ (optional Provider row.provider provider)
-    (each-append P (map Dependency row.dependencies) _ (each_map Dependency P row.dependencies (each_is (λ urn. P (Dependency urn)) dependency row.dependencies))
-    (each-append P (map Dependency (property_urns row.property_dependencies)) (optional_refs DeletedWith row.deleted_with)
-    (each_map Dependency P (property_urns row.property_dependencies) (each_is (λ urn. P (Dependency urn)) dependency (property_urns row.property_dependencies)))
+    each_append P (optional_refs Parent row.parent) _ (optional Parent row.parent (λ urn is. parent urn))
+    (each_append P (optional_refs Provider row.provider) _ (optional Provider row.provider provider)
+    (each_append P (map Dependency row.dependencies) _ (each_map Dependency P row.dependencies (each_always (λ urn. P (Dependency urn)) dependency row.dependencies))
+    (each_append P (map Dependency (property_urns row.property_dependencies)) (optional_refs DeletedWith row.deleted_with)
+    (each_map Dependency P (property_urns row.property_dependencies) (each_always (λ urn. P (Dependency urn)) dependency (property_urns row.property_dependencies)))
     (optional DeletedWith row.deleted_with (λ urn is. deleter urn)))))
   where
     optional : {X : Type 0} (kind : X → Missing) (o : Option X) → ((x : X) → o ≡ Some x → P (kind x)) → Each P (optional_refs kind o)
@@ -216,17 +189,6 @@ refs_turned turns entry later h =
     joined change xs ys one more = ap₂ (λ (a b : List Missing). a ++ b) one more ∙ sym (map_append change xs ys)
 
 -- ---- which row a reference names
-
--- an element by which a list passes
-pub each_names : {X Y : Type 0} (p : X → Y → Bool) (xs : List X) → Each (λ x. (y : Y) → p x y ≡ true → list_any (λ z. p z y) xs ≡ true) xs
-each_names p [] = tt
-each_names {X} {Y} p (x ∷ xs) =
-    (λ y h. rw h refl, more xs (each_names p xs))
-  where
-    more : (ys : List X) → Each (λ z. (y : Y) → p z y ≡ true → list_any (λ w. p w y) xs ≡ true) ys
-        → Each (λ z. (y : Y) → p z y ≡ true → list_any (λ w. p w y) (x ∷ xs) ≡ true) ys
-    more [] h = tt
-    more (z ∷ ys) h = ((λ y passes. rw (h.0 y passes) (or_true (p x y))), more ys h.1)
 
 -- each reference of a row names the rows that meet it
 pub refs_name : (row : Entry) → Each (λ (want : Missing). (other : Entry) → meets want other ≡ true → names_row row other ≡ true) (refs row)

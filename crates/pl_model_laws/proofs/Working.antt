@@ -1,7 +1,9 @@
 -- Where nothing is due or over the limit, no work is ready.
-use Rattle.std.proofs.Common.{◌≡◌, ℕ, zero, suc, ◌+◌, ◌<◌, ◌≤◌, Bool, true, false, not, ◌&&◌, ◌||◌, cond, List, [], ◌∷◌, ◌++◌, filter, length, map, reverse, refl, sym, ◌∙◌, ap, subst, inl, inr, ◌⊎◌, arith, eq-or-lt_of_le}
+use Rattle.std.proofs.Common.{◌≡◌, ℕ, zero, suc, ◌+◌, ◌<◌, ◌≤◌, Bool, true, false, not, ◌&&◌, ◌||◌, cond, List, ◌∷◌, ◌++◌, filter, length, map, reverse, refl, sym, ap, subst, inl, inr, ◌⊎◌, arith, eq-or-lt_of_le, []}
 use Rattle.std.proofs.lemmas.List.{reverse-reverse}
 use Rattle.std.specs.List.{flat_map, list_any, range_with_len}
+use Rattle.pl_lemmas.proofs.Numbers.{same_number}
+use Rattle.pl_lemmas.proofs.Each.{Each, each_append, each_reverse}
 use Rattle.pl_events.specs.declared.operation.Op.{Op}
 use Rattle.pl_events.specs.declared.operation.Op.TheVariants as op
 use Rattle.pl_events.specs.declared.operation.Source.TheVariants as source
@@ -13,18 +15,11 @@ use Rattle.pl_model.specs.declared.work.Work.TheVariants.{Clear as to_clear, Dro
 use Rattle.pl_model.specs.Due.{IsQuiet, all_sends, checks_of, configures_of, deletes_of, goal_numbers, imports_read, invokes_of, is_drop_ready, is_due, is_keep_ready, is_next_lane, is_over_limit, is_ready, is_ready_on, is_ready_op, is_wanted_op, operations_of, passes_limit, pending_numbers, reads_of, request_numbers, sends_of, works_of}
 use Rattle.pl_model.specs.Known.{Known, has_problem}
 use Rattle.pl_model.specs.Rows.{row_numbers}
-use Rattle.pl_model_laws.proofs.Freed.{range_lacks}
-use Rattle.pl_model_laws.proofs.Growing.{same_number}
-use Rattle.pl_model_laws.proofs.Once.{equal_ops}
-use Rattle.pl_model_laws.proofs.Pairs.{Each, each-append, each-reverse}
-use Rattle.pl_model_laws.proofs.Wants.{each_back, each_front, each_unflat, each_unmap}
+use Rattle.pl_model_stays.proofs.Once.{equal_ops, both, never_both}
+use Rattle.pl_model_stays.proofs.Pairs.{each_front, each_back, each_unmap, each_unflat}
+use Rattle.pl_model_stays.proofs.Lanes.{lane-unready}
 
 -- ---- tests
-
--- what passes two tests
-pub both : (a b : Bool) → a ≡ true → b ≡ true → (a && b) ≡ true
-both true b h k = k
-both false b h k = absurd (let e : false ≡ true = h in cc)
 
 -- a test that passes neither with another one nor without it
 either_not : (a b : Bool) → (a && not b) ≡ false → (a && b) ≡ false → a ≡ false
@@ -36,9 +31,6 @@ either_not true false h k = absurd (let e : true ≡ false = h in cc)
 second_fails : (a b : Bool) → a ≡ false → (not a && b) ≡ false → b ≡ false
 second_fails false b is h = h
 second_fails true b is h = absurd (let e : true ≡ false = is in cc)
-
-pub never_both : (b : Bool) → b ≡ true → b ≡ false → ⊥
-never_both b h k = let e : true ≡ false = sym h ∙ k in cc
 
 -- ---- lists
 
@@ -60,7 +52,7 @@ none_left {X = X} test (x ∷ xs) h = by (test x) refl h (none_left test xs)
 -- what each of a list has in reverse, it has
 pub each_unreverse : {X : Type 0} (P : X → Type 0) (xs : List X) → Each P (reverse xs) → Each P xs
 each_unreverse {X = X} P xs h =
-    subst (λ (ys : List X). Each P ys) (reverse-reverse xs) (each-reverse P (reverse xs) h)
+    subst (λ (ys : List X). Each P ys) (reverse-reverse xs) (each_reverse P (reverse xs) h)
 
 -- what each number of a range has
 pub each_range : (P : ℕ → Type 0) (a n k : ℕ) → Each P (range_with_len a n) → a ≤ k → k < a + n → P k
@@ -137,7 +129,7 @@ module _ (known : Known) (quiet : IsQuiet known) where
   pub no-operation : (about : Op) → list_any (same_op about) (operations_of known) ≡ true → is_ready_op known about ≡ false
   no-operation about among =
       each_named Unsent about (operations_of known)
-      (each-append Unsent (deletes_of known) _ (each_front Unsent (deletes_of known) _ none-sent)
+      (each_append Unsent (deletes_of known) _ (each_front Unsent (deletes_of known) _ none-sent)
       (each_back Unsent (configures_of known) _ after_deletes))
       among
 
@@ -172,12 +164,6 @@ module _ (known : Known) (quiet : IsQuiet known) where
       (each_back Unsent (flat_map (λ number. op.CheckConfig (subject.Goal number) ∷ op.Configure (source.Goal number) ∷ []) (goal_numbers known)) _
       configured_each)))
       (omega arith) (omega arith)
-
--- an operation that is not ready is not ready on any lane
-pub lane-unready : (known : Known) (about : Op) (lane : ℕ) → is_ready_op known about ≡ false → lane ≤ lane_count known.history
-    → is_ready_on known about lane ≡ false
-lane-unready known about lane unready low =
-    range_lacks (is_ready_on known about) 0 (lane_count known.history + 1) lane (omega arith) (omega arith) unready
 
 -- the check of a provider's inputs is never waited for
 pub config-serves : (known : Known) → IsQuiet known → has_problem known ≡ false → (number : ℕ)

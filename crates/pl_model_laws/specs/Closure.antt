@@ -2,7 +2,7 @@
 use Rattle.std.specs.Prelude.{◌≡◌, ◌⊎◌, ◌<◌, ℕ, Bool, true, List, length}
 use Rattle.pl_state.specs.Chain.{chain_of, refers_to}
 use Rattle.pl_state.specs.declared.entry.Entry.{Entry}
-use Rattle.pl_model.specs.Recording.{has_number}
+use Rattle.pl_lemmas.specs.Words.{has_number}
 
 -- what refers to the row, or to one of its chain, is in the chain
 abbrev pub ChainClosed : Type 0

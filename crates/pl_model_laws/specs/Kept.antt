@@ -1,46 +1,16 @@
--- Laws on what stays in a state, and on what is there where it is spoken of.
-use Rattle.std.specs.Prelude.{◌≡◌, ℕ, None, true, false, is_some, List, ◌∷◌}
+-- Laws on what is there where it is spoken of, and on what stays where nothing is to be saved.
+use Rattle.std.specs.Prelude.{◌≡◌, None, true, false, List, ◌∷◌}
 use Rattle.pl_events.specs.declared.event.Event.{Event}
 use Rattle.pl_events.specs.declared.operation.Op.{Op}
 use Rattle.pl_model.specs.declared.fixed.Fixed.{Fixed}
 use Rattle.pl_model.specs.Run.{is_preview}
 use Rattle.pl_model.specs.RunData.{IsRun}
-use Rattle.pl_model.specs.Asked.{ask_of}
-use Rattle.pl_model.specs.Due.{is_asked, is_due_on, source_of_op}
-use Rattle.pl_model.specs.Entries.{entry_of, recorded_entry}
+use Rattle.pl_model.specs.Due.{is_asked, source_of_op}
 use Rattle.pl_model.specs.History.{known_of}
-use Rattle.pl_model.specs.Known.{Known, checked_of, claim_of, has_problem, is_recorded}
+use Rattle.pl_model.specs.Known.{has_problem}
 use Rattle.pl_model.specs.Legal.{IsOrderly}
-use Rattle.pl_model.specs.Saves.{is_covered, must_save}
-use Rattle.pl_model.specs.State.{pending_for, state_of}
-
--- a recorded goal has its entry
-abbrev pub RecordedHasEntry : Type 0
-RecordedHasEntry = (run : Fixed) (history : List Event) (number : ℕ) → IsOrderly run history
-    → is_recorded (known_of run history) number ≡ true → is_some (recorded_entry (known_of run history) number) ≡ true
-
--- the claim of a goal, its checked inputs and its entry without told outputs are those that they were
-pub record EntryStays (before after : Known) (number : ℕ) : Type 0 where
-  pub claim : claim_of after number ≡ claim_of before number
-  pub checked : checked_of after number ≡ checked_of before number
-  pub entry : entry_of after number ≡ entry_of before number
-
--- so it is with each recorded goal when an orderly history grows
-abbrev pub EntriesStay : Type 0
-EntriesStay = (run : Fixed) (event : Event) (past : List Event) (number : ℕ)
-    → IsOrderly run (event ∷ past) → is_recorded (known_of run past) number ≡ true
-    → EntryStays (known_of run past) (known_of run (event ∷ past)) number
-
--- an operation that is due has what a provider is asked by it
-abbrev pub DueAsked : Type 0
-DueAsked = (run : Fixed) (history : List Event) (about : Op) (lane : ℕ) → IsOrderly run history
-    → is_due_on (known_of run history) about lane ≡ true → is_some (ask_of (known_of run history) about) ≡ true
-
--- and what it opens as pending, where it changes a thing
-abbrev pub DueOpens : Type 0
-DueOpens = (run : Fixed) (history : List Event) (about : Op) (lane : ℕ) → IsOrderly run history
-    → is_due_on (known_of run history) about lane ≡ true → is_covered about ≡ true
-    → is_some (pending_for (known_of run history) about) ≡ true
+use Rattle.pl_model.specs.Saves.{must_save}
+use Rattle.pl_model.specs.State.{state_of}
 
 -- what is to be done has the provider that it is sent to, or a problem stands
 abbrev pub SentSourced : Type 0

@@ -1,4 +1,3 @@
-pub mod Laws
 pub mod Kept
 pub mod Apart
 pub mod Order
@@ -8,5 +7,3 @@ pub mod Quiet
 pub mod Anew
 pub mod Foreseen
 pub mod Closure
-pub mod Choosing
-pub mod Falling

@@ -1,5 +1,0 @@
-use Rattle.pl_model_laws.proofs.Choosing as proof
-use Rattle.pl_model_laws.proofs.choice.checked_or_new.Goals as goal
-
-pub returns : goal.returns
-returns c = proof.checked-or-new

@@ -1,5 +1,0 @@
-use Rattle.pl_model_laws.proofs.Choosing as proof
-use Rattle.pl_model_laws.proofs.choice.chosen_lane_due.Goals as goal
-
-pub returns : goal.returns
-returns c = proof.chosen-lane-due

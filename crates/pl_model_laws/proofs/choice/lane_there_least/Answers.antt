@@ -1,5 +1,0 @@
-use Rattle.pl_model_laws.proofs.Choosing as proof
-use Rattle.pl_model_laws.proofs.choice.lane_there_least.Goals as goal
-
-pub returns : goal.returns
-returns c = proof.lane-there-least

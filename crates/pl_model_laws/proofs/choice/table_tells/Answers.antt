@@ -1,5 +1,0 @@
-use Rattle.pl_model_laws.proofs.Choosing as proof
-use Rattle.pl_model_laws.proofs.choice.table_tells.Goals as goal
-
-pub returns : goal.returns
-returns c = λ known table about wanted tells uses own. proof.table-tells known about wanted uses own table tells

@@ -1,5 +1,0 @@
-use Rattle.pl_model_laws.proofs.Choosing as proof
-use Rattle.pl_model_laws.proofs.choice.taken_or_none.Goals as goal
-
-pub returns : goal.returns
-returns c = proof.taken-or-none

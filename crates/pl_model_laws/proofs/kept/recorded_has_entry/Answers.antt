@@ -1,5 +1,0 @@
-use Rattle.pl_model_laws.proofs.KeptEntries as proof
-use Rattle.pl_model_laws.proofs.kept.recorded_has_entry.Goals as goal
-
-pub returns : goal.returns
-returns c = proof.recorded-has-entry

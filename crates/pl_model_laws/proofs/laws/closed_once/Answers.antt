@@ -1,5 +1,0 @@
-use Rattle.pl_model_laws.proofs.Once as proof
-use Rattle.pl_model_laws.proofs.laws.closed_once.Goals as goal
-
-pub returns : goal.returns
-returns c = λ run history ticket orderly. proof.closed_at_most_once run history ticket orderly

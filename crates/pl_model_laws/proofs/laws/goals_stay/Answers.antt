@@ -1,5 +1,0 @@
-use Rattle.pl_model_laws.proofs.Growing as proof
-use Rattle.pl_model_laws.proofs.laws.goals_stay.Goals as goal
-
-pub returns : goal.returns
-returns c = proof.goals-stay

@@ -1,5 +1,0 @@
-use Rattle.pl_model_laws.proofs.Recorded as proof
-use Rattle.pl_model_laws.proofs.laws.recorded_once.Goals as goal
-
-pub returns : goal.returns
-returns c = λ run history number orderly. proof.recorded_at_most_once run history number orderly

@@ -1,5 +1,0 @@
-use Rattle.pl_model_laws.proofs.Asking as proof
-use Rattle.pl_model_laws.proofs.laws.requests_stay.Goals as goal
-
-pub returns : goal.returns
-returns c = λ run event past n asked orderly h. proof.requests-stay run event past n asked orderly h

@@ -1,5 +1,0 @@
-use Rattle.pl_model_laws.proofs.Falling as proof
-use Rattle.pl_model_laws.proofs.left.left_stays.Goals as goal
-
-pub returns : goal.returns
-returns c = proof.left-stays

@@ -1,0 +1,5 @@
+use Rattle.pl_model_stays.proofs.KeptDue as proof
+use Rattle.pl_model_stays.proofs.kept.due_opens.Goals as goal
+
+pub returns : goal.returns
+returns c = proof.due-opens

@@ -1,0 +1,5 @@
+use Rattle.pl_model_stays.proofs.Growing as proof
+use Rattle.pl_model_stays.proofs.laws.decisions_stay.Goals as goal
+
+pub returns : goal.returns
+returns c = proof.decisions-stay

@@ -1,0 +1,5 @@
+use Rattle.pl_model_stays.proofs.Falling as proof
+use Rattle.pl_model_stays.proofs.left.left_stays.Goals as goal
+
+pub returns : goal.returns
+returns c = proof.left-stays

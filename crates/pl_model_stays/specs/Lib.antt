@@ -1,0 +1,5 @@
+pub mod Laws
+pub mod Kept
+pub mod Order
+pub mod Choosing
+pub mod Falling
