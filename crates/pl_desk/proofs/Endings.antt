@@ -4,6 +4,7 @@ use mathlib.Core.Option.{some, some-injective}
 use mathlib.Core.List.{IsPrefix}
 use lib.ListN.{get_elem?}
 use Rattle.atomic_table.specs.Table.{Final, Seen}
+use Rattle.std.proofs.lemmas.Option.{same_Some}
 use Rattle.pl_desk.specs.declared.board.View.{View}
 use Rattle.pl_desk.specs.declared.board.Place.{Place}
 use Rattle.pl_desk.specs.declared.board.Place.TheVariants.{Live}
@@ -11,7 +12,7 @@ use Rattle.pl_desk.specs.Posed.{number_in, turn_in, made_in, origin_in, seen_in,
 use Rattle.pl_desk.specs.Rule.{lines_of, Kept}
 use Rattle.pl_desk.proofs.Lines.{map_at}
 use Rattle.pl_desk.proofs.Steps.{closes}
-use Rattle.pl_desk.proofs.Tokens.{M, IsSeated, posed, some_is}
+use Rattle.pl_desk.proofs.Tokens.{M, IsSeated, posed}
 
 module _ {J O L : Type 0} (origin : J → O) (lines : J → List L) (f : L → ℕ) where
   pub record Ends (p : Place J) (x : J) : Type 0 where
@@ -49,4 +50,4 @@ module _ {J O L : Type 0} (origin : J → O) (lines : J → List L) (f : L → �
 
   pub ends_with : (m : M J) → IsSeated m → turn_in m.0 ≡ false → number_in m.0 ≡ 0 → AllIn m.0 → (id : ℕ) (ws : List ℕ) (xs : List (Option J)) → Final (Seen (Kept origin lines f) id m.0) ws xs
       → (found : Option J) → get_elem? xs 0 ≡ some found → (x : J) → found ≡ Some x → Ends m.0 x
-  ends_with m s off zero_is all id ws xs final found at x is = let k = item_found m s off zero_is all id ws xs final found at in subst (Ends m.0) (some_is k.0 x (sym k.1 ∙ is)) k.2
+  ends_with m s off zero_is all id ws xs final found at x is = let k = item_found m s off zero_is all id ws xs final found at in subst (Ends m.0) (same_Some k.0 x (sym k.1 ∙ is)) k.2

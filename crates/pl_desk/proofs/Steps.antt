@@ -6,13 +6,13 @@ use mathlib.Core.Option.{some, none, some-injective, some-ne-none}
 use native.Mathlib.Decide.{ℕ_discrete}
 use lib.ListN.{get_elem?}
 use prog.Atomic.{either}
-use Rattle.atomic_table.specs.Table.{State, Me, step, keeps, takes, gives, stepped, Allows, Splits, Joins, opening, Final, Seen}
+use Rattle.atomic_table.specs.Table.{State, Me, step, keeps, takes, gives, stepped, Allows, Splits, Joins, Final, Seen}
 use Rattle.atomic_table.proofs.Lists.{at_set, set_else, set_again, at_longer}
 use Rattle.pl_desk.specs.declared.board.View.{View}
 use Rattle.pl_desk.specs.declared.board.Place.{Place}
 use Rattle.pl_desk.specs.declared.board.Place.TheVariants.{Live, Spent}
 use Rattle.pl_desk.specs.Posed.{seen_in}
-use Rattle.pl_desk.specs.Rule.{lines_of, Grows, Fits, Kept, first_view, opened, took, gave, Known, knew, looked, later, GoesOn, learned, cut_left, cut_right, glued}
+use Rattle.pl_desk.specs.Rule.{lines_of, Grows, Fits, Kept, took, gave, Known, knew, looked, later, GoesOn, learned, cut_left, cut_right, glued}
 use Rattle.std.proofs.lemmas.Bool.Decides.{nat_tests}
 use Rattle.std.specs.Prelude.{nat_lt, cond}
 use Rattle.pl_desk.proofs.Lines.{prefix_self, prefix_trans, prefix_length, prefix_shorter, set_at, All_implies, none_below, grown_other, grown_prefix, between, below_front, all_both, snoc_cases, all_more}
@@ -201,38 +201,6 @@ module _ {J O L : Type 0} (origin : J → O) (lines : J → List L) (f : L → �
   pub gives_ok : (slots id new : ℕ) (me : M) (v : View J) (y : J) → me ≡ (Live v, (0, Some y) ∷ []) → v.turn ≡ true → origin v.last ≡ origin y → Grows f v.number (lines v.last) (lines y) → length (lines y) < 2 ^ 62 → new ≡ 2 * length (lines y)
       → Allows Rule slots id me 0 (λ _. new) (gave origin lines f (step slots 0 new 0 none) me)
   gives_ok slots id new me v y is on same grew few to = subst (λ m. Allows Rule slots id m 0 (λ _. new) (gave origin lines f (step slots 0 new 0 none) m)) (sym is) (gives_at slots id new v y on same grew few to)
-
-  -- a fact of the one seat of a new table
-  one_seat : (Q : ℕ → View J → Type 0) (v0 : View J) → Q 0 v0 → (j : ℕ) (v : View J) → get_elem? (Live v0 ∷ []) j ≡ some (Live v) → Q j v
-  one_seat Q v0 q zero v e = subst (Q 0) (live_is v0 v (some-injective (Live v0) (Live v) e)) q
-  one_seat Q v0 q (suc j) v e = absurd (some-ne-none (Live v) (sym e))
-
-  pub starts : (x : J) (word : ℕ) → All (λ l. f l ≡ 0) (lines x) → length (lines x) < 2 ^ 62 → word ≡ 2 * length (lines x) → Rule (opening (word ∷ []) (Some x ∷ []) (opened x))
-  starts x word zeros few is = let v0 : View J = first_view x in record {
-    item = x;
-    made = 1;
-    held = 0;
-    by = 0;
-    word = ap (λ (k : ℕ). k ∷ []) (omega (arith, is));
-    flag = omega arith;
-    few = few;
-    home = λ _. refl;
-    away = λ e. absurd (omega arith);
-    numbers = All_implies (λ (l : L). f l ≡ 0) (λ (l : L). f l < 1) (λ l e. omega arith) (lines x) zeros;
-    fits = one_seat (λ _ w. Fit x 1 w) v0 record {
-      origin_is = refl;
-      seen = prefix_self (lines x);
-      mine = refl;
-      below = omega arith;
-      shown = omega arith;
-      first = λ _. refl;
-      taken_in = λ k e is. absurd (some-ne-none e (sym is));
-    };
-    turns = one_seat (λ j w. w.turn ≡ true → (0 ≡ 1) × (j ≡ 0) × (lines w.last ≡ lines x)) v0 (λ e. absurd (cc e));
-    holder = λ e. absurd (omega arith);
-    apart = λ i j v w a b _. one_seat (λ i _. i ≡ j) v0 (one_seat (λ j _. 0 ≡ j) v0 refl j w b) i v a;
-    ended = λ i j k v w e a b is. one_seat (λ _ u. get_elem? u.gathered k ≡ some e → e.0 ≢ w.number) v0 (λ q. absurd (some-ne-none e (sym q))) i v a is;
-  }
 
   -- a seat without the turn has another view, which fits
   pub review : (s : St) (id : ℕ) (v v' : View J) → get_elem? s.views id ≡ some (Live v) → (r : Rule s) → v.turn ≡ false → v'.turn ≡ false → v'.number ≡ v.number → v'.gathered ≡ v.gathered → Fit r.item r.made v'

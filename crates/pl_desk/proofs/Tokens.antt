@@ -1,6 +1,5 @@
 -- A seat's token, from what it knows and back.
 use Rattle.std.proofs.Common.{◌≡◌, ℕ, Bool, true, false, List, [], ◌∷◌, ◌++◌, length, drop, Option, Some, None, refl, ap, sym, ◌∙◌}
-use Rattle.std.specs.Option.{unwrap_or}
 use Rattle.atomic_table.specs.Table.{Me, rest}
 use Rattle.pl_desk.specs.declared.board.View.{View}
 use Rattle.pl_desk.specs.declared.board.Place.{Place}
@@ -46,6 +45,3 @@ holding {J} m m' y s on to = let k = posed m s true on in (k.0, ap (λ (z : M J)
 pub mine_after : {J L : Type 0} (lines : J → List L) (f : L → ℕ) (p q : Place J) (y : J) → turn_in p ≡ true → Grows f (number_in p) (seen_in lines p) (lines y) → q ≡ facing y false p → mine_in lines f q ≡ mine_in lines f p ++ drop (length (seen_in lines p)) (lines y)
 mine_after lines f Spent q y on grows is = absurd (cc on)
 mine_after lines f (Live v) q y on grows is = ap (mine_in lines f) is ∙ grown_own f v.number (lines v.last) (lines y) grows
-
-pub some_is : {A : Type 0} (x y : A) → Some x ≡ Some y → x ≡ y
-some_is x y e = ap (λ (o : Option _). unwrap_or o x) e

@@ -1,12 +1,14 @@
 -- What is due when a request was told, and how a run stands when it was worked on.
-use Rattle.std.proofs.Common.{◌≡◌, ℕ, ◌<◌, ◌≤◌, Bool, true, false, ◌||◌, ◌&&◌, not, is_none, is_some, List, [], ◌∷◌, ◌++◌, length, map, reverse, filter, Option, Some, None, option_map, refl, sym, ◌∙◌, ap, subst, inl, inr, arith, nat_lt, ◌==◌, append_assoc}
+use Rattle.std.proofs.Common.{◌≡◌, ℕ, ◌<◌, Bool, true, false, ◌&&◌, not, is_none, is_some, List, [], ◌∷◌, ◌++◌, length, map, reverse, filter, Option, Some, None, option_map, refl, sym, ◌∙◌, ap, subst, inl, inr, arith, nat_lt, ◌==◌, append_assoc}
 use Rattle.std.proofs.lemmas.Bool.Decides.{nat_tests}
 use Rattle.std.proofs.lemmas.List.{length-map, length-reverse, map-append, reverse-append}
-use Rattle.std.proofs.lemmas.List.Folds.{list_all-append, list_any-append}
-use Rattle.std.specs.List.{list_any}
+use Rattle.std.proofs.lemmas.List.Folds.{list_all-append}
 use Rattle.std.specs.Str.{bytes_eq}
-use Rattle.pl_model.specs.Known.{number_of}
-use Rattle.pl_model.specs.Run.{most_resources}
+use Rattle.std.proofs.Math.Bool.{and-false, or-true}
+use Rattle.pl_lemmas.proofs.Lists.{any_reversed, any_mapped}
+use Rattle.pl_lemmas.proofs.Truth.{neither_right}
+use Rattle.pl_lemmas.proofs.Numbers.{same_number}
+use Rattle.pl_state.specs.Formed.{most_resources}
 use Rattle.pl_state.specs.declared.goal.Goal.{Goal}
 use Rattle.pl_state.specs.declared.goal.Registration.{Registration}
 use Rattle.pl_state.specs.declared.entry.Entry.{Entry}
@@ -16,7 +18,7 @@ use Rattle.pl_events.specs.declared.event.Stop.{Stop}
 use Rattle.pl_state.specs.Component.{is_plain}
 use Rattle.pl_components.specs.Run.{Fixed}
 use Rattle.pl_components.specs.Problems.{has_problem}
-use Rattle.pl_components.specs.Requests.{Waiting, goal_at, goal_for, goals_of, has_goal, has_parent, is_acceptable, is_registration, last_number, may_be_next, waiting_of}
+use Rattle.pl_components.specs.Requests.{Waiting, goal_at, goal_for, goals_of, has_goal, has_parent, is_acceptable, last_number, may_be_next, waiting_of}
 use Rattle.pl_events.specs.declared.event.Request.TheVariants.{Register}
 use Rattle.pl_urn.specs.Grammar.{child_fault}
 use Rattle.pl_components.specs.Saves.{must_save}
@@ -35,38 +37,14 @@ use Rattle.pl_engine.specs.Stored.{Adds}
 use Rattle.pl_engine.specs.Answered.{Answers, Stops, urn_of}
 use Rattle.pl_engine.specs.Running.{AllRecorded, AtRest, EndedBy, Goes, Over, RecordedAs, Registered, is_work}
 use Rattle.pl_engine.specs.declared.journal.Journal.{Journal}
-use Rattle.pl_engine.proofs.Resting.{NothingDue-told, entry_if-told, goal_at-told, goals-told, is_post_due-problem, is_post_due-recorded, is_ready-told, result-halted, result-recorded, result-stopped, same_number, unrecorded-told, waiting-told}
+use Rattle.pl_engine.proofs.Resting.{NothingDue-told, entry_if-told, goal_at-told, goals-told, is_post_due-problem, is_post_due-recorded, is_ready-told, result-halted, result-recorded, result-stopped, unrecorded-told, waiting-told}
 use Rattle.pl_engine.proofs.Storing.{run_same}
-
-and_false : (a : Bool) → (a && false) ≡ false
-and_false true = refl
-and_false false = refl
-
-or_true : (a : Bool) → (a || true) ≡ true
-or_true true = refl
-or_true false = refl
-
-list_any-reverse : {X : Type 0} (p : X → Bool) (xs : List X) → list_any p (reverse xs) ≡ list_any p xs
-list_any-reverse p [] = refl
-list_any-reverse p (x ∷ xs) =
-    ap (λ ys. list_any p ys) (reverse-append (x ∷ []) xs) ∙ list_any-append p (reverse xs) (x ∷ [])
-    ∙ ap (λ b. b || list_any p (x ∷ [])) (list_any-reverse p xs) ∙ turned (list_any p xs) (p x)
-  where
-    turned : (a b : Bool) → (a || (b || false)) ≡ (b || a)
-    turned true true = refl
-    turned true false = refl
-    turned false true = refl
-    turned false false = refl
-
-list_any-map : {X Y : Type 0} (p : Y → Bool) (f : X → Y) (xs : List X) → list_any p (map f xs) ≡ list_any (λ x. p (f x)) xs
-list_any-map p f [] = refl
-list_any-map p f (x ∷ xs) = ap (λ b. p (f x) || b) (list_any-map p f xs)
 
 -- the entries of the goals have the goals' URNs
 pub has_entry-goals : (goals : List Goal) (urn : List ℕ) → has_entry (map entry_of (reverse goals)) urn ≡ has_goal goals urn
 has_entry-goals goals urn =
-    list_any-map (λ (entry : Entry). bytes_eq entry.urn urn) entry_of (reverse goals)
-    ∙ list_any-reverse (λ (goal : Goal). bytes_eq goal.urn urn) goals
+    any_mapped (λ (entry : Entry). bytes_eq entry.urn urn) entry_of (reverse goals)
+    ∙ any_reversed (λ (goal : Goal). bytes_eq goal.urn urn) goals
 
 stands-goals : (goals : List Goal) (parent : Option (List ℕ)) → parent_stands (map entry_of (reverse goals)) parent ≡ has_parent goals parent
 stands-goals goals None = refl
@@ -288,7 +266,7 @@ next-placeable run n told journal failed rest calm above placeable =
     sym (is_placeable-goals run (goals_of run journal.history) told)
     ∙ ap (λ (es : List Entry). is_placeable run es told) (sym (rest.consistent.entries ∙ f.order)) ∙ placeable in
     let higher : nat_lt (last_number journal.history) n ≡ true = rw (sym rest.consistent.last) (grind (arith, nat_tests)) in
-    rw (higher, acceptable) (or_true (has_problem journal.history))
+    rw (higher, acceptable) (or-true (has_problem journal.history))
 
 -- one that they don't let stand is not
 pub not_next-placeable : (run : Fixed) (n : ℕ) (told : Registration) (journal : Journal) (failed : Bool)
@@ -299,25 +277,7 @@ not_next-placeable run n told journal failed rest calm refused =
     let refused' : is_acceptable run (goals_of run journal.history) told ≡ false =
     sym (is_placeable-goals run (goals_of run journal.history) told)
     ∙ ap (λ (es : List Entry). is_placeable run es told) (sym (rest.consistent.entries ∙ f.order)) ∙ refused in
-    rw (refused', f.free) (and_false (nat_lt (last_number journal.history) n))
-
-pub not_next-low : (run : Fixed) (n : ℕ) (told : Registration) (journal : Journal)
-    → Consistent run journal → n ≤ journal.last → may_be_next run journal.history (Register n told) ≡ false
-not_next-low run n told journal consistent low =
-    let lower : nat_lt (last_number journal.history) n ≡ false = rw (sym consistent.last) (grind (arith, nat_tests)) in
-    rw lower refl
-
--- a request that is no registration may not come next
-pub not_next-other : (run : Fixed) (past : List Event) (request : Request) → is_registration request ≡ false → may_be_next run past request ≡ false
-not_next-other run past (Register n told) other = absurd (cc)
-not_next-other run past request other = and_false (nat_lt (last_number past) (number_of request))
-
-pub next-halted : (run : Fixed) (n : ℕ) (told : Registration) (journal : Journal)
-    → Consistent run journal → journal.halted ≡ true → journal.last < n → may_be_next run journal.history (Register n told) ≡ true
-next-halted run n told journal consistent halted above =
-    let higher : nat_lt (last_number journal.history) n ≡ true = rw (sym consistent.last) (grind (arith, nat_tests)) in
-    let problem : has_problem journal.history ≡ true = sym consistent.halted ∙ halted in
-    rw (higher, problem) refl
+    rw (refused', f.free) (and-false (nat_lt (last_number journal.history) n))
 
 parent_of_and : (a b c : Bool) → (a && (b && c)) ≡ true → b ≡ true
 parent_of_and true true c h = refl
@@ -368,10 +328,6 @@ pub Adds-ended : (p : What → Bool) (end : HostEnd) (old new : List Event) (wan
 Adds-ended p end old new wanted all (inl (is, _)) = (end_event end ∷ [], is, ap (λ b. b && true) (all end))
 Adds-ended p end old new wanted all (inr (is, _)) = (end_event NoMemory ∷ [], is, ap (λ b. b && true) (all NoMemory))
 
-or_second : (a b : Bool) → (a || b) ≡ false → b ≡ false
-or_second true b h = absurd (cc)
-or_second false b h = h
-
 -- once the host has ended every request is answered as before
 pub Over-ended : (run : Fixed) (old new : Journal) (failed : Bool) (end : HostEnd)
     → AtRest run old failed → Consistent run new → new.history ≡ end_event end ∷ old.history → Over run new failed
@@ -380,16 +336,11 @@ Over-ended run old new failed end rest consistent is = record {
   ended = ap (λ (h : List Event). has_host_end h) is;
   answered = λ unfailed. ap (λ (h : List Event). waiting_of run h) is ∙ rest.answered unfailed;
   recorded = subst (λ (h : List Event). AllRecorded run h) (sym is) (record {
-    recorded = λ free. rest.recorded.recorded (or_second (is_some (problem_of_end end)) (has_problem old.history) free);
-    in_order = λ free. rest.recorded.in_order (or_second (is_some (problem_of_end end)) (has_problem old.history) free);
+    recorded = λ free. rest.recorded.recorded (neither_right (is_some (problem_of_end end)) (has_problem old.history) free);
+    in_order = λ free. rest.recorded.in_order (neither_right (is_some (problem_of_end end)) (has_problem old.history) free);
   });
   failing = λ failing. consistent.stopped ∙ ap (λ (h : List Event). has_stop h) is ∙ sym rest.consistent.stopped ∙ rest.failing failing;
 }
-
-pub Over-ended_by : (run : Fixed) (old new : Journal) (failed : Bool) (end : HostEnd) (wanted : Bool)
-    → AtRest run old failed → Consistent run new → EndedBy end old.history new.history wanted → Over run new failed
-Over-ended_by run old new failed end wanted rest consistent (inl (is, _)) = Over-ended run old new failed end rest consistent is
-Over-ended_by run old new failed end wanted rest consistent (inr (is, _)) = Over-ended run old new failed NoMemory rest consistent is
 
 -- a request that may not come next is a bad frame
 pub Registered-refused : (request : Request) (body : List ℕ) (run : Fixed) (old new : Journal) (failed : Bool)

@@ -3,8 +3,9 @@ use Rattle.std.proofs.Common.{◌≡◌, ◌⊎◌, ℕ, ◌<◌, ◌≤◌, Boo
 use Rattle.std.proofs.lemmas.Bool.Decides.{nat_tests}
 use Rattle.std.proofs.lemmas.List.Elements.{All-append}
 use Rattle.std.specs.List.{cons_option, list_all}
-use Rattle.pl_model.specs.Recording.{has_number, posted_in, posted_of}
-use Rattle.pl_model.specs.Run.{longest_body}
+use Rattle.pl_lemmas.specs.Words.{has_number}
+use Rattle.pl_model.specs.Recording.{posted_in, posted_of}
+use Rattle.pl_world.specs.declared.frames.TheConstants.{MAX_BODY}
 use Rattle.pl_text.specs.declared.memory.OutOfMemory.{OutOfMemory}
 use Rattle.pl_state.specs.declared.goal.Goal.{Goal}
 use Rattle.pl_events.specs.declared.event.Answer.{Answer}
@@ -23,6 +24,7 @@ use Rattle.pl_world.specs.declared.trouble.Trouble.TheVariants.{Failed}
 use Rattle.pl_world.specs.Counts.{Rose}
 use Rattle.pl_world.specs.Frames.{IsBody, frame_of}
 use Rattle.pl_world.specs.Told.{Bears, Gave, Piece, bytes_of}
+use Rattle.pl_world.proofs.Telling.{bytes_of-append}
 use Rattle.pl_components.specs.Run.{Fixed}
 use Rattle.pl_components.specs.Problems.{has_problem}
 use Rattle.pl_events.specs.Halted.{halted}
@@ -52,14 +54,10 @@ pub answer_for-urn : (result : Option Goal) (urn : List ℕ) → option_map urn_
 answer_for-urn None urn h = absurd (cc)
 answer_for-urn (Some goal) urn h = ap (λ (u : List ℕ). Registered u None []) (let e : goal.urn ≡ urn = cc in e)
 
-pub answer_for-none : (result : Option Goal) → option_map urn_of result ≡ None → answer_for result ≡ halted
-answer_for-none None h = refl
-answer_for-none (Some goal) h = absurd (cc)
-
-short : (n : ℕ) (answer : Answer) → length (answer_text n answer) ≤ longest_body → is_too_long host_spelling n answer ≡ false
+short : (n : ℕ) (answer : Answer) → length (answer_text n answer) ≤ MAX_BODY → is_too_long host_spelling n answer ≡ false
 short n answer fits = rw (answer_text-host n answer) (grind (arith, nat_tests))
 
-long : (n : ℕ) (answer : Answer) → longest_body < length (answer_text n answer) → is_too_long host_spelling n answer ≡ true
+long : (n : ℕ) (answer : Answer) → MAX_BODY < length (answer_text n answer) → is_too_long host_spelling n answer ≡ true
 long n answer over = rw (answer_text-host n answer) (grind (arith, nat_tests))
 
 chosen : (problem too_long : Bool) (answer : Answer) → too_long ≡ false → (if problem && too_long then halted else answer) ≡ answer
@@ -67,7 +65,7 @@ chosen true too_long answer is = rw is refl
 chosen false too_long answer is = refl
 
 pub answer_of-fits : (run : Fixed) (history : List Event) (n : ℕ) (urn : List ℕ)
-    → option_map urn_of (result_of run history n) ≡ Some urn → length (answer_text n (Registered urn None [])) ≤ longest_body
+    → option_map urn_of (result_of run history n) ≡ Some urn → length (answer_text n (Registered urn None [])) ≤ MAX_BODY
     → answer_of run host_spelling history n ≡ Registered urn None []
 answer_of-fits run history n urn result fits =
     let is = answer_for-urn (result_of run history n) urn result in
@@ -82,7 +80,7 @@ pub too_long-free : (run : Fixed) (history : List Event) (n : ℕ) → has_probl
 too_long-free run history n free too_long = rw free too_long
 
 pub too_long-result : (run : Fixed) (history : List Event) (n : ℕ) (urn : List ℕ)
-    → option_map urn_of (result_of run history n) ≡ Some urn → longest_body < length (answer_text n (Registered urn None []))
+    → option_map urn_of (result_of run history n) ≡ Some urn → MAX_BODY < length (answer_text n (Registered urn None []))
     → is_too_long host_spelling n (answer_for (result_of run history n)) ≡ true
 too_long-result run history n urn result over =
     ap (λ (a : Answer). is_too_long host_spelling n a) (answer_for-urn (result_of run history n) urn result) ∙ long n (Registered urn None []) over
@@ -108,12 +106,6 @@ pub text-if : (n : ℕ) (answer : Answer) (result : Result (List ℕ) OutOfMemor
     → IfOk result (λ body. body ≡ answer_text n halted) → IfOk result (λ body. body ≡ answer_text n answer)
 text-if n answer (Ok body) is h = h ∙ ap (λ (a : Answer). answer_text n a) (sym is)
 text-if n answer (Err _) is h = tt
-
--- the pieces of two gifts, one after the other
-bytes_of-append : (first second : List Piece) → bytes_of (first ++ second) ≡ bytes_of first ++ bytes_of second
-bytes_of-append [] second = refl
-bytes_of-append (piece ∷ first) second =
-    ap (λ (bytes : List ℕ). piece.0 ++ bytes) (bytes_of-append first second) ∙ sym (append_assoc piece.0 (bytes_of first) (bytes_of second))
 
 -- whether an event is no post
 abbrev pub is_unposted : What → Bool
@@ -280,32 +272,18 @@ Written-failed run faults faults' wanted wanted' failed n body more rest history
     later (inl is) = ([], is)
     later (inr (stop, is)) = (stop_event stop ∷ [], is)
 
--- an answer for which no memory was found before anything was given
-pub Written-wanted : (run : Fixed) (faults : ℕ) (wanted wanted' failed : Bool) (history middle new : List Event) (given : Option (List Piece))
-    → failed ≡ false → Stops history middle → Stops middle new → wanted' ≡ true
-    → Written run faults wanted failed history given → Written run faults wanted' true new given
-Written-wanted run faults wanted wanted' failed history middle new given unfailed first second want h = record {
-  exact = λ e. absurd (cc);
-  loose = λ _. if_map _ _ given (λ pieces is. record { uncovered = is.uncovered; answered = inl (is.exact ∙ sym (same middle new second ∙ same history middle first)) }) (h.exact unfailed);
-  cause = λ _. inr want;
-}
-  where
-    same : (old now : List Event) → Stops old now → answers_of run host_spelling now ≡ answers_of run host_spelling old
-    same old now (inl is) = ap (λ (past : List Event). answers_of run host_spelling past) is
-    same old now (inr (stop, is)) = ap (λ (past : List Event). answers_of run host_spelling past) is
-
 pub Adds-stops : (old new : List Event) → Stops old new → Adds is_unposted old new
 Adds-stops old new (inl is) = ([], is, refl)
 Adds-stops old new (inr (stop, is)) = (stop_event stop ∷ [], is, refl)
 
 -- a result that was refused for its length is over the limit
 pub over_limit : (error : MsgOut) (len n : ℕ) (answer : Answer) → error ≡ TooLong len
-    → IfTooLong error (λ told. told ≡ length (answer_text n answer)) → IfTooLong error (λ told. longest_body < told)
-    → longest_body < length (answer_text n answer)
+    → IfTooLong error (λ told. told ≡ length (answer_text n answer)) → IfTooLong error (λ told. MAX_BODY < told)
+    → MAX_BODY < length (answer_text n answer)
 over_limit error len n answer is told over =
     let told' : len ≡ length (answer_text n answer) = subst (λ (e : MsgOut). IfTooLong e (λ l. l ≡ length (answer_text n answer))) is told in
-    let over' : longest_body < len = subst (λ (e : MsgOut). IfTooLong e (λ l. longest_body < l)) is over in
-    subst (λ (l : ℕ). longest_body < l) told' over'
+    let over' : MAX_BODY < len = subst (λ (e : MsgOut). IfTooLong e (λ l. MAX_BODY < l)) is over in
+    subst (λ (l : ℕ). MAX_BODY < l) told' over'
 
 -- what is told where the pipe failed
 pub failed_of : (trouble : Trouble) (P : Type 0) → trouble ≡ Failed → OnFailed {T = Unit {0}} (Err trouble) P → P

@@ -1,5 +1,5 @@
 -- How a run stands to the store that it was begun over.
-use Rattle.std.proofs.Common.{◌≡◌, ℕ, ◌-◌, ◌<◌, ◌≤◌, Bool, List, [], ◌∷◌, ◌++◌, length, get_or, slice_get, Option, Some, None, IfSome, MatchOption, Result, Ok, IfOk, refl, sym, ◌∙◌, ap, subst, inl, inr, arith}
+use Rattle.std.proofs.Common.{◌≡◌, ℕ, ◌-◌, ◌<◌, ◌≤◌, Bool, List, [], ◌∷◌, ◌++◌, length, get_or, slice_get, Option, Some, None, IfSome, MatchOption, refl, sym, ◌∙◌, ap, subst, inl, inr, arith}
 use Rattle.pl_events.specs.declared.event.Event.{Event}
 use Rattle.pl_state.specs.declared.snapshot.Snapshot.{Snapshot}
 use Rattle.pl_cli.specs.declared.command.RunWords.{RunWords}
@@ -11,7 +11,7 @@ use Rattle.pl_engine.specs.Stored.{IsKeptUp}
 use Rattle.pl_decide.specs.declared.outcome.Outcome.{Outcome}
 use Rattle.pl_decide.specs.declared.outcome.Outcome.TheVariants.{Done, Failed, TooManyResources, BadWords, NotBuilt, BadCheckpoint, PendingOperations, StoreFault, SideFault, StartFault, PipeFault, SinkFault, ChildEnded, BadFrame, OutOfMemory}
 use Rattle.pl_engine.specs.Content.{IsBegun}
-use Rattle.pl_engine.specs.Headline.{IsEarly, IsRefused, IsRunOf, IsUnread, IsUntouched, command_words, no_state, run_over}
+use Rattle.pl_engine.specs.Headline.{IsEarly, IsRefused, IsRunOf, IsUntouched, command_words, no_state, run_over}
 use Rattle.pl_engine.specs.Printed.{IsUp}
 use Rattle.pl_engine.proofs.Saving.{AllMarked-caused}
 use Rattle.pl_engine.proofs.Storing.{Rose-earlier}
@@ -19,10 +19,6 @@ use Rattle.pl_engine.proofs.Storing.{Rose-earlier}
 -- what holds before the run where there was no host
 pub early : {A : Type 0} (host : Option A) (X : Type 0) (Y : A → Type 0) → host ≡ None → X → MatchOption host X Y
 early host X Y is x = subst (λ h. MatchOption h X Y) (sym is) x
-
--- what holds of an answer that came
-pub of_ok : {X E : Type 0} (result : Result X E) (x : X) (P : X → Type 0) → result ≡ Ok x → IfOk result P → P x
-of_ok result x P is h = subst (λ r. IfOk r P) is h
 
 IsKeptUp-caused : (run : Fixed) (rose rose' : Type 0) (wanted : Bool) (history : List Event) (marks : List ℕ) (before now : Option (List (List ℕ)))
     → (rose → rose') → IsKeptUp run host_spelling rose wanted history marks before now → IsKeptUp run host_spelling rose' wanted history marks before now
@@ -80,24 +76,6 @@ pub of-words : {A : Type 0} (host : Option A) (base : Snapshot) (words : List (L
     → IfSome host (λ used. (r : Fixed) × IsRunOf words base r × Says r used)
 of-words None base words run Says theirs h = h
 of-words (Some used) base words run Says theirs h = (run_over run.stack run.project base, theirs, h)
-
--- an outcome of the store alone is one from before the run
-pub early-unread : (content : Option (List (List ℕ))) (store spawner : Type 0) (outcome : Outcome) → IsUnread content store outcome → IsEarly content store spawner outcome
-early-unread content store spawner Done h = h
-early-unread content store spawner (Failed _ _) h = h
-early-unread content store spawner TooManyResources h = h
-early-unread content store spawner (BadWords _) h = h
-early-unread content store spawner NotBuilt h = h
-early-unread content store spawner (BadCheckpoint _) h = h
-early-unread content store spawner (PendingOperations _) h = h
-early-unread content store spawner SideFault h = h
-early-unread content store spawner SinkFault h = h
-early-unread content store spawner StoreFault h = h
-early-unread content store spawner StartFault h = absurd h.1
-early-unread content store spawner (PipeFault _) h = h
-early-unread content store spawner (ChildEnded _) h = h
-early-unread content store spawner (BadFrame _ _) h = h
-early-unread content store spawner OutOfMemory h = tt
 
 -- what is said of a run by its data is said of the run of the words
 pub match-words : {A : Type 0} (host : Option A) (base : Snapshot) (words : List (List ℕ)) (run : RunWords) (Unused : Type 0) (Says : Fixed → A → Type 0)

@@ -1,28 +1,16 @@
 -- A registration that was read has the form of one.
-use Rattle.std.proofs.Common.{◌≡◌, ℕ, ◌^◌, ◌≤◌, Bool, true, false, not, ◌&&◌, cond, List, codes, Option, Some, None, nat_lt, option_map, option_and_then, refl, sym, ◌∙◌, ap, arith}
+use Rattle.std.proofs.Common.{◌≡◌, ℕ, ◌^◌, ◌≤◌, Bool, true, false, not, ◌&&◌, cond, List, codes, Option, Some, None, nat_lt, refl, sym, ◌∙◌, ap, arith}
 use Rattle.std.proofs.lemmas.Bool.Decides.{nat_tests}
+use Rattle.pl_lemmas.proofs.Options.{then_some}
 use Rattle.pl_state.specs.Component.{plain_registration}
 use Rattle.pl_state.specs.declared.goal.Registration.{Registration}
 use Rattle.pl_events.specs.Requests.{is_formed_registration, is_formed_request, is_request_number}
-use Rattle.pl_events.specs.declared.event.Request.{Request}
 use Rattle.pl_events.specs.declared.event.Request.TheVariants.{Register}
-use Rattle.pl_host_msg.specs.declared.word.HostWord.TheVariants.{Request as Asks, Success}
-use Rattle.pl_host_msg.specs.Field.{field, optional_text, plain_type, request_number, text}
-use Rattle.pl_host_msg.specs.Word.{has_defaults, json_of, register_of, word_of, word_of_data}
-use Rattle.pl_host_msg.proofs.Numbers.{word_number_in_range}
-
--- where two steps gave a value, the first gave one and the second made the value of it
-both_steps : {A B : Type 0} (f : A → Option B) (o : Option A) (y : B) → option_and_then f o ≡ Some y → (x : A) × (o ≡ Some x) × (f x ≡ Some y)
-both_steps f None y e = absurd cc
-both_steps f (Some x) y e = (x, refl, e)
-
--- the request that a registration's word is for
-request_called : (done register : Bool) (read : Option Request) (request : Request)
-    → cond done (Some Success) (cond register (option_map Asks read) None) ≡ Some (Asks request) → read ≡ Some request
-request_called true register read request e = absurd cc
-request_called false true None request e = absurd cc
-request_called false true (Some r) request e = cc
-request_called false false read request e = absurd cc
+use Rattle.pl_host_msg.specs.declared.word.HostWord.TheVariants.{Request as Asks}
+use Rattle.pl_members.specs.Field.{json_of, present, text}
+use Rattle.pl_host_msg.specs.Field.{optional_text, plain_type, request_number}
+use Rattle.pl_host_msg.specs.Word.{has_defaults, register_of, word_of, word_of_data}
+use Rattle.pl_host_msg.proofs.Numbers.{request_called, word_number_in_range}
 
 -- the registration that a message's own texts make has the form of one
 formed_plain : (b : Bool) (n m : ℕ) (kind name : List ℕ) (parent : Option (List ℕ)) (told : Registration)
@@ -34,13 +22,13 @@ formed_plain false n m kind name parent told e = absurd cc
 formed_told : (bytes : List ℕ) (n : ℕ) (told : Registration) → word_of bytes ≡ Some (Asks (Register n told)) → is_formed_registration told ≡ true
 unfolding word_of word_of_data register_of
 formed_told bytes n told e =
-    let read = both_steps word_of_data (json_of bytes) _ e in
-    let called = both_steps _ (text (field (codes "call") read.0)) _ read.2 in
+    let read = then_some word_of_data (json_of bytes) _ e in
+    let called = then_some _ (text (present (codes "call") read.0)) _ read.2 in
     let request = request_called _ _ (register_of read.0) (Register n told) called.2 in
-    let number = both_steps _ (request_number (field (codes "n") read.0)) _ request in
-    let kind = both_steps _ (plain_type (field (codes "type") read.0)) _ number.2 in
-    let name = both_steps _ (text (field (codes "name") read.0)) _ kind.2 in
-    let parent = both_steps _ (optional_text (field (codes "parent") read.0)) _ name.2 in
+    let number = then_some _ (request_number (present (codes "n") read.0)) _ request in
+    let kind = then_some _ (plain_type (present (codes "type") read.0)) _ number.2 in
+    let name = then_some _ (text (present (codes "name") read.0)) _ kind.2 in
+    let parent = then_some _ (optional_text (present (codes "parent") read.0)) _ name.2 in
     formed_plain (has_defaults read.0) number.0 n kind.0 name.0 parent.0 told parent.2
 
 number_formed : (n : ℕ) → 1 ≤ n → n ≤ 2 ^ 53 → is_request_number n ≡ true

@@ -1,7 +1,7 @@
 -- What `state` prints, and what comes of it.
-use Rattle.std.proofs.Common.{◌≡◌, ◌⊎◌, ℕ, zero, suc, ◌≤◌, Bool, true, false, List, [], ◌∷◌, length, take, Option, Some, None, refl, sym, ◌∙◌, ap, subst, inl, inr, arith, if◌then◌else◌}
+use Rattle.std.proofs.Common.{◌≡◌, ℕ, zero, suc, ◌≤◌, Bool, true, false, List, [], ◌∷◌, length, take, Option, Some, None, refl, sym, ◌∙◌, ap, subst, inl, inr, arith, if◌then◌else◌}
 use Rattle.std.proofs.lemmas.List.{append-nil}
-use Rattle.pl_cli.specs.Reading.{bad_place, command_of, engine_words, is_state, spells_state, work_given}
+use Rattle.pl_cli.specs.Reading.{command_of, engine_words, is_state, spells_state, work_given}
 use Rattle.pl_cli.specs.declared.table.CommandName.{CommandName}
 use Rattle.pl_cli.specs.declared.table.CommandName.TheVariants as command
 use Rattle.pl_cli.specs.declared.table.StateWork.{StateWork}
@@ -9,46 +9,9 @@ use Rattle.pl_decide.specs.declared.outcome.Outcome.{Outcome}
 use Rattle.pl_decide.specs.declared.outcome.Outcome.TheVariants.{Done, Failed, TooManyResources, BadWords, NotBuilt, BadCheckpoint, PendingOperations, StoreFault, SideFault, StartFault, PipeFault, SinkFault, ChildEnded, BadFrame, OutOfMemory}
 use Rattle.pl_show.specs.StopLine.{stopped_line}
 use Rattle.pl_state.specs.declared.snapshot.Snapshot.{Snapshot}
-use Rattle.pl_world.specs.Told.{Grew, GrewByPart}
-use Rattle.pl_world.proofs.Telling.{Grew-nothing}
+use Rattle.pl_world.specs.Told.{Grew}
 use Rattle.pl_engine.specs.Content.{IsBad, IsUnreadable, ReadsAs}
-use Rattle.pl_engine.specs.Headline.{IsOfState, IsRefused}
-use Rattle.pl_engine.specs.Printed.{AreLines, IsListed, IsPrinted, IsShown, IsState, IsStateServed, IsUp, MayRead, lines_of, state_or_none, stop_lines, told_line}
-
--- nothing was to be printed
-pub shown-nothing : (rose : Type 0) (wanted : Bool) (before : Option (List ℕ)) → IsShown rose wanted before before []
-shown-nothing rose wanted before = inl (Grew-nothing before before refl)
-
--- what stays as it is grew by the first bytes of any text, by none
-pub part-nothing : (before now : Option (List ℕ)) (text : List ℕ) → now ≡ before → GrewByPart before now text
-part-nothing before now text same = (0, omega arith, Grew-nothing before now same)
-
--- the line could not be made for want of memory
-pub shown-unmade : (rose : Type 0) (before : Option (List ℕ)) (text : List ℕ) → IsShown rose true before before text
-shown-unmade rose before text = inr (inr refl, part-nothing before before text refl)
-
--- lines over what was read
-pub served-listed : (work : StateWork) (story : Option (List (List ℕ))) (store sink : Type 0) (wanted : Bool) (before now : Option (List ℕ)) (found : Option Snapshot) (outcome : Outcome)
-    → ReadsAs story found → IsListed sink (lines_of work (state_or_none found)) before now outcome → IsStateServed work story store sink wanted before now outcome
-served-listed work story store sink wanted before now found Done reads is = (found, reads, is)
-served-listed work story store sink wanted before now found (Failed _ _) reads is = is
-served-listed work story store sink wanted before now found TooManyResources reads is = is
-served-listed work story store sink wanted before now found (BadWords place) reads is = is
-served-listed work story store sink wanted before now found NotBuilt reads is = is
-served-listed work story store sink wanted before now found (BadCheckpoint why) reads is = absurd is
-served-listed work story store sink wanted before now found (PendingOperations _) reads is = is
-served-listed work story store sink wanted before now found StoreFault reads is = absurd is
-served-listed work story store sink wanted before now found SideFault reads is = is
-served-listed work story store sink wanted before now found StartFault reads is = is
-served-listed work story store sink wanted before now found (PipeFault _) reads is = is
-served-listed work story store sink wanted before now found SinkFault reads is = (found, reads, is.0, is.1)
-served-listed work story store sink wanted before now found (ChildEnded _) reads is = is
-served-listed work story store sink wanted before now found (BadFrame _ _) reads is = is
-served-listed work story store sink wanted before now found OutOfMemory reads is = listed_memory is
-  where
-    listed_memory : (now ≡ before) ⊎ GrewByPart before now (lines_of work (state_or_none found)) → IsStateServed work story store sink wanted before now OutOfMemory
-    listed_memory (inl same) = inl same
-    listed_memory (inr part) = inr (found, reads, part)
+use Rattle.pl_engine.specs.Printed.{AreLines, IsPrinted, IsShown, IsState, IsStateServed, MayRead, lines_of, state_or_none, stop_lines, told_line}
 
 -- where the text is empty nothing was written
 grew-empty : (before now : Option (List ℕ)) → Grew before now [] → now ≡ before
@@ -82,25 +45,6 @@ served-unreadable work story store sink wanted before now SinkFault is shown = a
 served-unreadable work story store sink wanted before now (ChildEnded _) is shown = is
 served-unreadable work story store sink wanted before now (BadFrame _ _) is shown = is
 served-unreadable work story store sink wanted before now OutOfMemory is shown = inl (shown-empty sink wanted before now shown)
-
--- what came of accepted words of `state` has its cause
-pub of_state-served : (words : List (List ℕ)) (work : StateWork) (story : Option (List (List ℕ))) (store sink : Type 0) (wanted : Bool) (before now : Option (List ℕ)) (outcome : Outcome)
-    → IsState words → IsStateServed work story store sink wanted before now outcome → IsOfState words story store sink outcome
-of_state-served words work story store sink wanted before now Done own is = (own, (is.0, is.1))
-of_state-served words work story store sink wanted before now (Failed _ _) own is = is
-of_state-served words work story store sink wanted before now TooManyResources own is = is
-of_state-served words work story store sink wanted before now (BadWords place) own is = absurd is
-of_state-served words work story store sink wanted before now NotBuilt own is = is
-of_state-served words work story store sink wanted before now (BadCheckpoint why) own is = (own, is.0)
-of_state-served words work story store sink wanted before now (PendingOperations _) own is = is
-of_state-served words work story store sink wanted before now StoreFault own is = (own, is.0)
-of_state-served words work story store sink wanted before now SideFault own is = is
-of_state-served words work story store sink wanted before now StartFault own is = is
-of_state-served words work story store sink wanted before now (PipeFault _) own is = is
-of_state-served words work story store sink wanted before now SinkFault own is = (own, (is.0, is.1), is.3)
-of_state-served words work story store sink wanted before now (ChildEnded _) own is = is
-of_state-served words work story store sink wanted before now (BadFrame _ _) own is = is
-of_state-served words work story store sink wanted before now OutOfMemory own is = tt
 
 -- the first word of a command `state` spells it
 spells : (words : List (List ℕ)) → IsState words → spells_state words ≡ true
@@ -141,33 +85,6 @@ printed-served words work story store sink wanted before now OutOfMemory own giv
     memory : IsStateServed work story store sink wanted before now OutOfMemory → IsPrinted words story sink wanted before now OutOfMemory
     memory (inl same) = inl same
     memory (inr some) = inr (lines_of work (state_or_none some.0), lines-own words work story some.0 given some.1, some.2)
-
--- an outcome of words that need no host is one that no run has
-pub refused-of_state : (words : List (List ℕ)) (story : Option (List (List ℕ))) (store spawner sink : Type 0) (outcome : Outcome)
-    → IsOfState words story store sink outcome → IsRefused words story store spawner sink outcome
-refused-of_state words story store spawner sink Done is = is
-refused-of_state words story store spawner sink (Failed _ _) is = is
-refused-of_state words story store spawner sink TooManyResources is = is
-refused-of_state words story store spawner sink (BadWords place) is = is
-refused-of_state words story store spawner sink NotBuilt is = absurd is
-refused-of_state words story store spawner sink (BadCheckpoint why) is = (is.0.accepted, is.1)
-refused-of_state words story store spawner sink (PendingOperations _) is = absurd is
-refused-of_state words story store spawner sink StoreFault is = (is.0.accepted, is.1)
-refused-of_state words story store spawner sink SideFault is = is
-refused-of_state words story store spawner sink StartFault is = absurd is
-refused-of_state words story store spawner sink (PipeFault _) is = is
-refused-of_state words story store spawner sink SinkFault is = is
-refused-of_state words story store spawner sink (ChildEnded _) is = is
-refused-of_state words story store spawner sink (BadFrame _ _) is = is
-refused-of_state words story store spawner sink OutOfMemory is = is
-
--- words of `up` are none of `state`
-pub not_up : (words : List (List ℕ)) → IsState words → IsUp words → ⊥
-not_up words own other = let e : Some command.State ≡ Some command.Up = sym own.command ∙ other.command in cc
-
--- words that are refused are no command
-pub refused_not_up : (words : List (List ℕ)) (place : ℕ) → bad_place words ≡ Some place → IsUp words → ⊥
-refused_not_up words place refused other = let e : Some place ≡ None = sym refused ∙ other.accepted in cc
 
 -- what words that are refused print
 pub printed-refused : (words : List (List ℕ)) (story : Option (List (List ℕ))) (sink : Type 0) (wanted : Bool) (before now : Option (List ℕ)) (place : ℕ) (outcome : Outcome)

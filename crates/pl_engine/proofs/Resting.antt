@@ -1,7 +1,9 @@
 -- What is due after a request is told, and what is left when it was worked on.
-use Rattle.std.proofs.Common.{◌≡◌, ℕ, Bool, true, false, ◌||◌, ◌&&◌, List, [], ◌∷◌, length, Option, Some, None, refl, arith, ◌==◌, nat_lt}
+use Rattle.std.proofs.Common.{◌≡◌, ℕ, Bool, true, false, List, [], ◌∷◌, length, Option, Some, None, refl, arith, ◌==◌, nat_lt}
 use Rattle.std.proofs.lemmas.Bool.Decides.{nat_tests}
-use Rattle.pl_model.specs.Run.{most_resources}
+use Rattle.std.proofs.Math.Bool.{and-false, or-true}
+use Rattle.pl_lemmas.proofs.Numbers.{same_number}
+use Rattle.pl_state.specs.Formed.{most_resources}
 use Rattle.pl_state.specs.declared.goal.Goal.{Goal}
 use Rattle.pl_state.specs.declared.goal.Registration.{Registration}
 use Rattle.pl_events.specs.declared.event.Event.{Event}
@@ -11,18 +13,6 @@ use Rattle.pl_components.specs.Requests.{Waiting, goal_at, goal_for, goals_of, w
 use Rattle.pl_components.specs.Entries.{entry_if, entry_of, new_entries, unrecorded_of}
 use Rattle.pl_components.specs.Due.{NothingDue, is_post_due, is_ready, parent_stands, result_of}
 use Rattle.pl_engine.specs.Journal.{told_event}
-
--- a number is itself
-pub same_number : (n : ℕ) → (n == n) ≡ true
-same_number n = grind (arith, nat_tests)
-
-and_false : (a : Bool) → (a && false) ≡ false
-and_false true = refl
-and_false false = refl
-
-or_true : (a : Bool) → (a || true) ≡ true
-or_true true = refl
-or_true false = refl
 
 module _ (run : Fixed) (n : ℕ) (told : Registration) (past : List Event) where
   -- the goal that the request makes, and its number
@@ -69,8 +59,8 @@ module _ (run : Fixed) (n : ℕ) (told : Registration) (past : List Event) where
   pub NothingDue-told : has_problem past ≡ false → unrecorded_of run past ≡ [] → waiting_of run past ≡ []
       → nat_lt (length (new_entries run past)) most_resources ≡ false → NothingDue run after
   NothingDue-told free none idle full = record {
-    no_post = λ m. rw (result-unrecorded m free none idle, free, and_false);
-    no_keep = λ g. rw (full, and_false);
+    no_post = λ m. rw (result-unrecorded m free none idle, free, and-false);
+    no_keep = λ g. rw (full, and-false);
   }
 
 module _ (run : Fixed) (n number : ℕ) (goal : Goal) (history : List Event) where
@@ -89,7 +79,7 @@ module _ (run : Fixed) (n number : ℕ) (goal : Goal) (history : List Event) whe
 -- a request that waits alone and made this goal or none is answered after a problem
 pub is_post_due-problem : (run : Fixed) (n : ℕ) (made : Option ℕ) (history : List Event)
     → waiting_of run history ≡ record { number = n; made = made } ∷ [] → has_problem history ≡ true → is_post_due run history n ≡ true
-is_post_due-problem run n made history waits problem = rw (waits, same_number n, problem, or_true)
+is_post_due-problem run n made history waits problem = rw (waits, same_number n, problem, or-true)
 
 pub result-halted : (run : Fixed) (n : ℕ) (history : List Event)
     → waiting_of run history ≡ record { number = n; made = None } ∷ [] → result_of run history n ≡ None

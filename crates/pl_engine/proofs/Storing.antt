@@ -6,6 +6,7 @@ use Rattle.std.proofs.lemmas.List.{map-append}
 use Rattle.std.proofs.lemmas.List.Elements.{All-push, Contains-push, recursion_from_All}
 use Rattle.std.proofs.lemmas.List.Quantifiers.{all_pairs_push}
 use Rattle.std.specs.List.{list_all}
+use Rattle.std.proofs.Math.Bool.{or-true}
 use Rattle.pl_model.specs.Run.{Spelling}
 use Rattle.pl_events.specs.Closing.{has_stop}
 use Rattle.pl_events.specs.declared.event.Event.{Event}
@@ -21,7 +22,7 @@ use Rattle.pl_components.specs.Entries.{entries_after, new_entries, state_of}
 use Rattle.pl_components.specs.Saves.{IsStory, is_after_save, must_save, prefix_of, saves_of}
 use Rattle.pl_state.specs.declared.snapshot.Snapshot.{Snapshot}
 use Rattle.pl_world.specs.Counts.{Rose}
-use Rattle.pl_checkpoint.specs.Spelled.{checkpoint_text}
+use Rattle.pl_checkpoint_text.specs.Spelled.{checkpoint_text}
 use Rattle.pl_engine.specs.Spelled.{host_spelling}
 use Rattle.pl_model.specs.Causes.{is_want_stop}
 use Rattle.pl_engine.specs.Answered.{Stops}
@@ -356,22 +357,18 @@ IfFault-map StoreFault P Q f h = f h
 IfFault-map NoMemory P Q f h = tt
 IfFault-map _ P Q f h = h
 
-or_true : (b : Bool) → (b || true) ≡ true
-or_true true = refl
-or_true false = refl
-
 -- want of memory is noted
 pub want_of : (stop : Stop) (before now : Bool) (P : Type 0) → now ≡ (before || is_want_stop stop)
     → IfFault stop P → IfWant stop (now ≡ true)
 want_of StoreFault before now P is h = tt
-want_of NoMemory before now P is h = is ∙ or_true before
+want_of NoMemory before now P is h = is ∙ or-true before
 want_of _ before now P is h = h
 
 pub or_keeps : (before more now : Bool) → now ≡ (before || more) → before ≡ true → now ≡ true
 or_keeps before more now is h = is ∙ rw h refl
 
 pub or_wants : (before now : Bool) → now ≡ (before || true) → now ≡ true
-or_wants before now is = is ∙ or_true before
+or_wants before now is = is ∙ or-true before
 
 -- a journal that is consistent with a run has that run's data
 pub run_same : (run : Fixed) (journal : Journal) → Consistent run journal → run_of journal ≡ run

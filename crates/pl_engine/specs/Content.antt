@@ -3,7 +3,7 @@ use Rattle.std.specs.Prelude.{⊤, ◌≡◌, ◌<◌, ℕ, List, [], length, sl
 use Rattle.pl_state.specs.Component.{bare_state}
 use Rattle.pl_state.specs.declared.fault.BadCheckpoint.{BadCheckpoint}
 use Rattle.pl_state.specs.declared.snapshot.Snapshot.{Snapshot}
-use Rattle.pl_checkpoint.specs.Read.{reading_of}
+use Rattle.pl_checkpoint_text.specs.Read.{reading_of}
 use Rattle.pl_decide.specs.declared.outcome.Outcome.{Outcome}
 use Rattle.pl_decide.specs.declared.outcome.Outcome.TheVariants.{Done, Failed, TooManyResources, BadWords, NotBuilt, BadCheckpoint as Bad, PendingOperations, StoreFault, SideFault, StartFault, PipeFault, SinkFault, ChildEnded, BadFrame, OutOfMemory}
 

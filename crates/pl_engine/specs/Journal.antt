@@ -3,17 +3,17 @@ use Rattle.std.specs.Prelude.{◌≡◌, ℕ, Bool, true, ◌||◌, if◌then◌
 use Rattle.pl_events.specs.Closing.{has_stop}
 use Rattle.pl_events.specs.declared.event.Event.{Event}
 use Rattle.pl_events.specs.declared.event.Stop.{Stop}
-use Rattle.pl_events.specs.declared.event.HostEnd.{HostEnd}
 use Rattle.pl_events.specs.declared.event.Request.TheVariants.{Register}
-use Rattle.pl_events.specs.declared.event.What.TheVariants.{Told, HostGone, Kept, Posted, Stopped}
+use Rattle.pl_events.specs.declared.event.What.TheVariants.{Told, Kept, Posted}
 use Rattle.pl_state.specs.declared.goal.Registration.{Registration}
-use Rattle.pl_checkpoint.specs.Pieces.{entry_text}
+use Rattle.pl_checkpoint_text.specs.Pieces.{entry_text}
 use Rattle.pl_components.specs.Run.{Fixed, state_with}
 use Rattle.pl_model.specs.Causes.{has_want}
 use Rattle.pl_components.specs.Problems.{has_problem, least_outcome}
 use Rattle.pl_components.specs.Requests.{last_number}
 use Rattle.pl_components.specs.Entries.{new_entries}
 use Rattle.pl_components.specs.Legal.{IsLegal}
+pub use Rattle.pl_engine.specs.Closing.{end_event, stop_event}
 use Rattle.pl_engine.specs.Spelled.{host_spelling}
 use Rattle.pl_engine.specs.declared.journal.Journal.{Journal}
 
@@ -51,12 +51,6 @@ kept_event goal = record { seat = 0; what = Kept goal None }
 
 abbrev pub posted_event : ℕ → Event
 posted_event n = record { seat = 0; what = Posted n }
-
-abbrev pub stop_event : Stop → Event
-stop_event stop = record { seat = 0; what = Stopped stop }
-
-abbrev pub end_event : HostEnd → Event
-end_event end = record { seat = 0; what = HostGone end }
 
 -- the history after a stop: the first one stands alone
 abbrev pub stopped_by : Stop → Bool → List Event → List Event

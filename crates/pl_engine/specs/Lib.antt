@@ -12,3 +12,4 @@ pub mod Headline
 pub mod Caused
 pub mod Content
 pub mod Promise
+pub mod Closing

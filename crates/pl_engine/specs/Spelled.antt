@@ -6,7 +6,7 @@ use Rattle.pl_host_msg.specs.declared.word.HostWord.{HostWord}
 use Rattle.pl_host_msg.specs.declared.word.HostWord.TheVariants.{Request as Asks, Success}
 use Rattle.pl_host_msg.specs.Word.{word_of}
 use Rattle.pl_host_msg.specs.Answer.{answer_text}
-use Rattle.pl_checkpoint.specs.Spelled.{checkpoint_text}
+use Rattle.pl_checkpoint_text.specs.Spelled.{checkpoint_text}
 
 abbrev pub request_of_word : HostWord → Option Request
 request_of_word (Asks request) = Some request

@@ -1,5 +1,5 @@
 ghost use Rattle.std.specs.Prelude.{◌≡◌, ◌≤◌, [], Ok, Err, IfErr, IfOk, OnOk};
-ghost use Rattle.pl_checkpoint.specs.Read.{reading_of};
+ghost use Rattle.pl_checkpoint_text.specs.Read.{reading_of};
 ghost use Rattle.pl_world.specs.Counts.{Rose};
 ghost use Rattle.pl_state.specs.Component.{bare_state};
 ghost use Rattle.pl_engine.specs.Content.{HasNothing, IsBad, IsBegun, IsUnreadable, IsUnserved, ReadsAs};

@@ -1,7 +1,7 @@
 ghost use Rattle.pl_model.specs.Problems.{problem_of_end, problem_of_stop};
 ghost use Rattle.std.specs.Prelude.{◌≡◌, ◌+◌, ◌++◌, ◌≤◌, [], ◌∷◌, true, false, ◌||◌, Some, None, is_some, length, map, take, IfErr, IfOk, OnErr, OnOk};
-ghost use Rattle.pl_checkpoint.specs.Pieces.{entry_text};
-ghost use Rattle.pl_checkpoint.specs.Spelled.{checkpoint_text};
+ghost use Rattle.pl_checkpoint_text.specs.Pieces.{entry_text};
+ghost use Rattle.pl_checkpoint_text.specs.Spelled.{checkpoint_text};
 ghost use Rattle.pl_engine.specs.Content.{HasNothing};
 ghost use Rattle.pl_engine.specs.Spelled.{host_spelling};
 ghost use Rattle.pl_engine.specs.Journal.{Consistent, end_event, kept_event, posted_event, run_of, stopped_by, told_event};
@@ -14,21 +14,19 @@ ghost use Rattle.pl_model.specs.Causes.{is_want_end, is_want_stop};
 ghost use Rattle.pl_components.specs.Problems.{first_of, outcome_of_event};
 ghost use Rattle.pl_model.specs.Outcomes.{outcome_of_problem};
 
+use crate::log::{Log, REGISTRAR};
 use pl_checkpoint::{join_text, spell_entry};
 use pl_decide::{Child, Outcome, Problem};
-use pl_events::{Event, History, HostEnd, Request, Stop, What};
+use pl_events::{Event, HostEnd, Request, Stop, What};
 use pl_state::{Entries, Entry, Registration, Snapshot};
 use pl_value::{Bytes, OutOfMemory, Text, Texts};
 use std::alloc::Global;
 use std::mem;
 
-/// The seat of the thread that reads the host's messages.
-const REGISTRAR: u64 = 0;
-
 /// The run's record as it grows, with what is kept of it for the next step.
 #[derive(Debug, Drop)]
 pub struct Journal {
-    pub history: History,
+    pub history: Log,
     /// The lengths of the history at which a replacement of the checkpoint succeeded.
     pub marks: Vec<u64>,
     /// The state that the history comes to.
@@ -102,17 +100,6 @@ fn is_want(stop: Stop) -> bool
     }
 }
 
-/// Appends an event; after `OutOfMemory` nothing was appended.
-fn append(history: &mut History, event: Event) -> Result<(), OutOfMemory>
-    ensures appended { OnOk result (history.new ≡ event ∷ history.old) }
-    ensures unchanged { OnErr result (history.new ≡ history.old) }
-{
-    match history.push(event) {
-        Ok(()) => Ok(()),
-        Err(_) => Err(OutOfMemory),
-    }
-}
-
 /// Adds an entry and its text; after `OutOfMemory` neither was added.
 fn add_entry(
     alloc: Global,
@@ -146,13 +133,7 @@ fn keep_texts(alloc: Global, texts: &mut Texts, count: usize)
 
 impl Journal {
     /// A journal without an event; takes no memory.
-    pub fn new(
-        alloc: Global,
-        history: History,
-        state: Snapshot,
-        stack: Text,
-        project: Text,
-    ) -> Journal
+    pub fn new(alloc: Global, history: Log, state: Snapshot, stack: Text, project: Text) -> Journal
         requires history { history ≡ [] }
         requires state { HasNothing state }
         ensures consistent { Consistent (run_of result) result }
@@ -204,7 +185,7 @@ impl Journal {
         }
         let at = self.history.len() as u64;
         settle(&mut self.outcome, outcome_of_stop(at, stop));
-        self.history.push_stop(REGISTRAR, stop);
+        self.history.stop(stop);
         self.stopped = true;
         self.halted = true;
     }
@@ -226,7 +207,7 @@ impl Journal {
             seat: REGISTRAR,
             what: What::Told(Request::Register { n, told }),
         };
-        append(&mut self.history, event)?;
+        self.history.push(event)?;
         self.last = n;
         Ok(())
     }
@@ -249,7 +230,7 @@ impl Journal {
             seat: REGISTRAR,
             what: What::Kept { goal, fresh: None },
         };
-        if append(&mut self.history, event).is_err() {
+        if self.history.push(event).is_err() {
             self.state.entries.truncate(count);
             keep_texts(alloc, &mut self.texts, count);
             return Err(OutOfMemory);
@@ -271,7 +252,7 @@ impl Journal {
             seat: REGISTRAR,
             what: What::Posted { n },
         };
-        append(&mut self.history, event)
+        self.history.push(event)
     }
 
     /// Writes down the host's end, whose problem gives `outcome`; takes no memory.
@@ -288,6 +269,6 @@ impl Journal {
         self.wanted = self.wanted || want;
         self.halted = self.halted || problem;
         settle(&mut self.outcome, outcome);
-        self.history.push_host_end(REGISTRAR, end);
+        self.history.end_host(end);
     }
 }

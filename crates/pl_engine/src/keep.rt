@@ -1,5 +1,5 @@
 ghost use Rattle.std.specs.Prelude.{◌≡◌, ◌≤◌, ◌++◌, [], ◌∷◌, ℕ, List, Option, false, true, length, IfErr, IfOk, OnErr, OnOk};
-ghost use Rattle.pl_checkpoint.specs.Spelled.{checkpoint_text};
+ghost use Rattle.pl_checkpoint_text.specs.Spelled.{checkpoint_text};
 ghost use Rattle.pl_world.specs.Counts.{Rose};
 ghost use Rattle.pl_world.specs.Told.{Grew, IsKeptOrAdded};
 ghost use Rattle.pl_components.specs.Requests.{goal_at, goals_of};

@@ -8,6 +8,7 @@ mod hostless;
 mod journal;
 mod judge;
 mod keep;
+mod log;
 mod post;
 mod serve;
 mod start;

@@ -3,7 +3,8 @@ ghost use Rattle.pl_world.specs.Causes.{OnFailed};
 ghost use Rattle.pl_world.specs.Counts.{Rose};
 ghost use Rattle.pl_world.specs.Frames.{IsBody, frame_of};
 ghost use Rattle.pl_world.specs.Told.{Gave, GavePart};
-ghost use Rattle.pl_host_msg.specs.Answer.{answer_text, IfTooLong, longest_body};
+ghost use Rattle.pl_host_msg.specs.Answer.{answer_text, IfTooLong};
+ghost use Rattle.pl_world.specs.declared.frames.TheConstants.{MAX_BODY};
 ghost use Rattle.pl_components.specs.Due.{answer_of, is_post_due, result_of};
 ghost use Rattle.pl_engine.specs.Spelled.{host_spelling};
 ghost use Rattle.pl_engine.specs.Journal.{Consistent, run_of};
@@ -159,10 +160,10 @@ fn answer_body(
 /// The bytes of the answer that a component of this URN is registered.
 fn registered_bytes(alloc: Global, n: u64, urn: Urn) -> Result<Bytes, MsgOut>
     ensures bytes { IfOk result (λ bytes. bytes ≡ answer_text n (Answer.Registered urn None [])) }
-    ensures fits { IfOk result (λ bytes. length bytes ≤ longest_body) }
+    ensures fits { IfOk result (λ bytes. length bytes ≤ MAX_BODY) }
     ensures too_long { IfErr result (λ error. IfTooLong error
         (λ len. len ≡ length (answer_text n (Answer.Registered urn None [])))) }
-    ensures over { IfErr result (λ error. IfTooLong error (λ len. longest_body < len)) }
+    ensures over { IfErr result (λ error. IfTooLong error (λ len. MAX_BODY < len)) }
 {
     let answer = Answer::Registered {
         urn,

@@ -27,15 +27,12 @@ use crate::post::{Writing, post};
 use pl_decide::{Child, Outcome, Problem};
 use pl_events::{HostEnd, Request, Stop};
 use pl_host_msg::HostWord;
-use pl_state::Registration;
+use pl_state::{MOST_RESOURCES, Registration};
 use pl_urn::Urn;
 use pl_value::{Bytes, OutOfMemory};
 use pl_world::{Pipe, Store};
 use std::alloc::Global;
 use std::sync::Wait;
-
-/// The most resources that a state may hold.
-const MOST_RESOURCES: u64 = 10_000;
 
 /// Tells a request that a problem halts, and answers so. Answers whether the host may go on.
 fn halt<Q: Pipe>(

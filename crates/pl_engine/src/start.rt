@@ -11,11 +11,11 @@ ghost use Rattle.pl_engine.specs.Headline.{IsEarly, IsFinal, IsLegalRun, IsOneWa
 
 use crate::finish::{refused, status_of};
 use crate::journal::Journal;
+use crate::log::Log;
 use crate::post::Writing;
 use crate::serve::serve;
 use crate::world::{Finished, RunRecord, World};
 use pl_decide::Outcome;
-use pl_events::History;
 use pl_state::{Entries, Snapshot};
 use pl_value::{OutOfMemory, Text, Words};
 use pl_world::{Pipe, Spawner, Store, Trouble};
@@ -68,7 +68,7 @@ fn run_host<R: Wait, S: Store, Q: Pipe>(
     state: Snapshot,
     stack: Text,
     project: Text,
-    history: History,
+    history: Log,
     store: &mut S,
     halves: (Q, Q),
 ) -> Served<Q>
@@ -208,10 +208,8 @@ pub fn start<R: Wait, S: Store, B: Drop, P: Spawner<Cover = S::Cover>, W: Drop, 
     ensures gate { result.world.gate ≡ world.gate }
     ensures status { result.status ≡ status_code result.outcome }
 {
-    let (Ok(words), Ok(history)) = (
-        host_command(alloc, host, &stack, &project),
-        History::new(alloc),
-    ) else {
+    let (Ok(words), Ok(history)) = (host_command(alloc, host, &stack, &project), Log::new(alloc))
+    else {
         return refused(alloc, Outcome::OutOfMemory, true, world);
     };
     let World {

@@ -1,8 +1,9 @@
 use Rattle.std.proofs.Common.{rules, ◌*◌, ap, sym, ◌∙◌, subst, arith, false}
+use Rattle.std.proofs.lemmas.Option.{same_Some}
 use Rattle.pl_desk.specs.Posed.{number_in, origin_in, seen_in, facing}
 use Rattle.pl_desk.specs.Rule.{Grows}
 use Rattle.pl_desk.specs.declared.board.Place.{Place}
-use Rattle.pl_desk.proofs.Tokens.{seated, some_is, holding}
+use Rattle.pl_desk.proofs.Tokens.{seated, holding}
 use Rattle.pl_desk.proofs.Steps.{gives_ok}
 use Rattle.pl_desk.proofs.calls.give_back.Goals as goal
 
@@ -11,7 +12,7 @@ swap-found-requires g c = let s = c.args.seat.now in let k = holding s.hold.me _
   search rules,
   search rules,
   gives_ok origin lines f _ _ _ _ k.0 c.args.item k.3 k.2
-      (some_is _ _ (sym (ap (origin_in origin) k.1) ∙ c.requires.origin))
+      (same_Some _ _ (sym (ap (origin_in origin) k.1) ∙ c.requires.origin))
       (subst (λ (p : Place _). Grows f (number_in p) (seen_in lines p) (lines c.args.item)) k.1 c.requires.added)
       c.requires.few (ap (λ n. 2 * n) c.length-length.ensures),
 )

@@ -1,5 +1,5 @@
 use Rattle.std.proofs.Common.{◌≤◌, ℕ, None, [], List, sym, ◌∙◌, ap, subst}
-use Rattle.pl_model.specs.Run.{longest_body}
+use Rattle.pl_world.specs.declared.frames.TheConstants.{MAX_BODY}
 use Rattle.pl_events.specs.declared.event.Answer.{Answer}
 use Rattle.pl_events.specs.declared.event.Answer.TheVariants.{Registered}
 use Rattle.pl_events.specs.declared.event.Stop.TheVariants.{MessageTooLong}
@@ -20,7 +20,7 @@ pub returns-in-Ok-clause-answer : goal.returns-in-Ok-clause-answer
 returns-in-Ok-clause-answer c =
     c.in-Ok.ensures.bytes ∙ ap (λ (a : Answer). answer_text c.args.n a)
     (sym (answer_of-fits (run_of c.args.journal.now) c.args.journal.now.history c.args.n c.in-Some.urn (c.requires.result ∙ c.in-Some.is)
-    (subst (λ (b : List ℕ). length b ≤ longest_body) c.in-Ok.ensures.bytes c.in-Ok.ensures.fits)))
+    (subst (λ (b : List ℕ). length b ≤ MAX_BODY) c.in-Ok.ensures.bytes c.in-Ok.ensures.fits)))
 
 pub stop-requires-clause-fits : goal.stop-requires-clause-fits
 stop-requires-clause-fits c = λ _. record {
