@@ -7,13 +7,12 @@ use std::sync::Wait;
 use std::test::Fail;
 use std::thread::Threads;
 
+type Memory = World<MemStore, MemStore, MemSpawner, MemSink, CountIds, FreeGate>;
+
 type Ended = Finished<MemStore, MemStore, MemSpawner, MemSink, CountIds, FreeGate>;
 
 const STACK: &str =
     r#"{"call":"register","custom":false,"n":1,"name":"web-dev","type":"pulumi:pulumi:Stack"}"#;
-
-const SITE: &str =
-    r#"{"call":"register","n":2,"name":"s","parent":"urn:pulumi:dev::web::pulumi:pulumi:Stack::web-dev","type":"my:index:Site"}"#;
 
 const DONE: &str = r#"{"call":"done"}"#;
 
@@ -25,9 +24,9 @@ const FIRST: &str =
 const SECOND: &str =
     r#"{"checkpoint":{"latest":{"manifest":{},"pending_operations":[],"resources":[{"custom":false,"type":"pulumi:pulumi:Stack","urn":"urn:pulumi:dev::web::pulumi:pulumi:Stack::web-dev"},{"custom":false,"parent":"urn:pulumi:dev::web::pulumi:pulumi:Stack::web-dev","type":"my:index:Site","urn":"urn:pulumi:dev::web::my:index:Site::s"}]},"stack":"dev"},"version":3}"#;
 
-/// The URNs of the second text, one a line.
-const URNS: &str =
-    "urn:pulumi:dev::web::pulumi:pulumi:Stack::web-dev\nurn:pulumi:dev::web::my:index:Site::s\n";
+/// What the host is given where it registers two components.
+const ANSWERS: &str =
+    "\0\0\0\x55{\"n\":1,\"ok\":{\"outputs\":{},\"urn\":\"urn:pulumi:dev::web::pulumi:pulumi:Stack::web-dev\"}}\0\0\0\x49{\"n\":2,\"ok\":{\"outputs\":{},\"urn\":\"urn:pulumi:dev::web::my:index:Site::s\"}}";
 
 /// A state without resources, with unread fields and another name.
 const NOTHING: &str =
@@ -45,69 +44,52 @@ const WAITING: &str =
 const CHILD_FIRST: &str =
     r#"{"checkpoint":{"latest":{"resources":[{"parent":"urn:pulumi:dev::web::pulumi:pulumi:Stack::web-dev","type":"my:index:Site","urn":"urn:pulumi:dev::web::my:index:Site::s"},{"type":"pulumi:pulumi:Stack","urn":"urn:pulumi:dev::web::pulumi:pulumi:Stack::web-dev"}]},"stack":"dev"},"version":3}"#;
 
-const LIST: &[&str] = &["state", "list"];
+const UP: &str = "up --stack dev --project web -- h";
 
-const CHECK: &[&str] = &["state", "check"];
+/// Two components and the word of success, a message a line.
+const TWO: &str =
+    r#"{"call":"register","custom":false,"n":1,"name":"web-dev","type":"pulumi:pulumi:Stack"}
+{"call":"register","n":2,"name":"s","parent":"urn:pulumi:dev::web::pulumi:pulumi:Stack::web-dev","type":"my:index:Site"}
+{"call":"done"}"#;
 
-const NO_MESSAGES: &[&str] = &[];
-
-/// Words of `state` that may not stand: no work, and a host.
-const BARE: &[&str] = &["state"];
-
-const HOSTED: &[&str] = &["state", "list", "--", "h"];
-
-const NO_COMMAND: &[&str] = &["list"];
+/// The stack's own component and the word of success.
+const ONE: &str =
+    r#"{"call":"register","custom":false,"n":1,"name":"web-dev","type":"pulumi:pulumi:Stack"}
+{"call":"done"}"#;
 
 /// What a world in memory is to do.
 #[derive(Drop)]
 struct Script<'a> {
-    words: &'a [&'a str],
-    messages: &'a [&'a str],
+    /// The words, with blanks between them.
+    words: &'a str,
+    /// The host's messages, a line each.
+    messages: &'a str,
     /// How many of the host's bytes come before its output ends; all where there are fewer.
     cut: usize,
     /// The size at which reads and writes are cut; 0 for none.
     chunk: usize,
     /// What the store has at the start; nothing where this is empty.
     content: &'a str,
-    store_fails: &'a [u64],
-    /// The store's failing calls of which the bytes arrive all the same.
-    store_arrives: &'a [u64],
-    reading_fails: &'a [u64],
-    writing_fails: &'a [u64],
-    spawner_fails: &'a [u64],
-    sink_fails: &'a [u64],
+    /// The part of the world that fails, with the number of its call; `late` is a store to which the bytes come all the same.
+    fails: &'a str,
 }
 
-/// Two components and the word of success.
-const TWO: &[&str] = &[STACK, SITE, DONE];
-
-const UP: &[&str] = &["up", "--stack", "dev", "--project", "web", "--", "h"];
-
 /// A world in which nothing fails.
-fn script_of<'a>(words: &'a [&'a str], messages: &'a [&'a str]) -> Script<'a> {
+fn plain<'a>(words: &'a str, messages: &'a str, content: &'a str) -> Script<'a> {
     Script {
         words,
         messages,
         cut: usize::MAX,
         chunk: 0,
-        content: EMPTY,
-        store_fails: &[],
-        store_arrives: &[],
-        reading_fails: &[],
-        writing_fails: &[],
-        spawner_fails: &[],
-        sink_fails: &[],
+        content,
+        fails: EMPTY,
     }
-}
-
-fn plain<'a>(messages: &'a [&'a str]) -> Script<'a> {
-    script_of(UP, messages)
 }
 
 /// The frames of the messages, up to the cut.
 fn input_of(alloc: Global, script: &Script<'_>) -> Result<Vec<u8>, AllocError> {
     let mut input = Vec::new(alloc);
-    for message in script.messages {
+    for message in script.messages.split('\n') {
         let bytes = message.as_bytes();
         if bytes.len() < 1000 {
             input.extend_from_slice(&(bytes.len() as u32).to_be_bytes())?;
@@ -118,20 +100,32 @@ fn input_of(alloc: Global, script: &Script<'_>) -> Result<Vec<u8>, AllocError> {
     Ok(input)
 }
 
-fn pipe_script(
+/// The calls of this part that fail.
+fn fails_of(alloc: Global, script: &Script<'_>, part: &str) -> Result<Vec<u64>, AllocError> {
+    let mut calls = Vec::new(alloc);
+    if let Some((name, call)) = script.fails.split_once(' ') {
+        if name == part {
+            calls.push(call.parse::<u64>().unwrap_or(0))?;
+        }
+    }
+    Ok(calls)
+}
+
+/// A half of the host's pipe, of which this part fails.
+fn pipe_of(
     alloc: Global,
+    script: &Script<'_>,
     input: Vec<u8>,
-    chunk: usize,
-    fails: &[u64],
+    part: &str,
 ) -> Result<PipeScript, AllocError> {
     let mut chunks = Vec::new(alloc);
-    if chunk > 0 {
-        chunks.push(chunk)?;
+    if script.chunk > 0 {
+        chunks.push(script.chunk)?;
     }
     Ok(PipeScript {
         input,
         chunks,
-        fails: fails.to_vec(alloc)?,
+        fails: fails_of(alloc, script, part)?,
     })
 }
 
@@ -141,9 +135,44 @@ fn store_of(alloc: Global, script: &Script<'_>) -> Result<MemStore, AllocError> 
     if !script.content.is_empty() {
         story.push(Bytes::from_vec(script.content.as_bytes().to_vec(alloc)?))?;
     }
-    let fails = script.store_fails.to_vec(alloc)?;
-    let arrives = script.store_arrives.to_vec(alloc)?;
+    let arrives = fails_of(alloc, script, "late")?;
+    let mut fails = fails_of(alloc, script, "store")?;
+    fails.extend_from_slice(arrives.as_slice())?;
     Ok(MemStore::new(story, fails, arrives))
+}
+
+/// The two halves of the host's pipe.
+fn spawner_of(alloc: Global, script: &Script<'_>) -> Result<MemSpawner, AllocError> {
+    let mut pipes = Vec::new(alloc);
+    let input = input_of(alloc, script)?;
+    pipes.push(pipe_of(alloc, script, input, "reading")?)?;
+    pipes.push(pipe_of(alloc, script, Vec::new(alloc), "writing")?)?;
+    let fails = fails_of(alloc, script, "start")?;
+    Ok(MemSpawner::new(alloc, pipes, fails))
+}
+
+fn world_of(alloc: Global, script: &Script<'_>) -> Result<Memory, AllocError> {
+    let store = store_of(alloc, script)?;
+    let spawner = spawner_of(alloc, script)?;
+    let fails = fails_of(alloc, script, "sink")?;
+    Ok(World {
+        store,
+        side: MemStore::new(Vec::new(alloc), Vec::new(alloc), Vec::new(alloc)),
+        spawner,
+        sink: MemSink::new(alloc, Vec::new(alloc), fails),
+        ids: CountIds::new(),
+        gate: FreeGate,
+    })
+}
+
+fn words_of(alloc: Global, line: &str) -> Result<Vec<String>, AllocError> {
+    let mut words = Vec::new(alloc);
+    if !line.is_empty() {
+        for word in line.split(' ') {
+            words.push(String::from_str(alloc, word)?)?;
+        }
+    }
+    Ok(words)
 }
 
 /// Runs the engine over the script's world.
@@ -152,37 +181,78 @@ fn run<R: Threads + Wait + Sync>(
     alloc: Global,
     script: &Script<'_>,
 ) -> Result<Ended, AllocError> {
-    let mut words = Vec::new(alloc);
-    for word in script.words {
-        words.push(String::from_str(alloc, word)?)?;
-    }
-    let mut scripts = Vec::new(alloc);
-    let input = input_of(alloc, script)?;
-    scripts.push(pipe_script(alloc, input, script.chunk, script.reading_fails)?)?;
-    scripts.push(pipe_script(alloc, Vec::new(alloc), script.chunk, script.writing_fails)?)?;
-    let world = World {
-        store: store_of(alloc, script)?,
-        side: MemStore::new(Vec::new(alloc), Vec::new(alloc), Vec::new(alloc)),
-        spawner: MemSpawner::new(alloc, scripts, script.spawner_fails.to_vec(alloc)?),
-        sink: MemSink::new(alloc, Vec::new(alloc), script.sink_fails.to_vec(alloc)?),
-        ids: CountIds::new(),
-        gate: FreeGate,
-    };
+    let words = words_of(alloc, script.words)?;
+    let world = world_of(alloc, script)?;
     Ok(engine(rt, alloc, words.as_slice(), world))
 }
 
-/// Whether the run ended with this status, this many saves, and this last content.
-fn ended_so(ended: &Ended, status: u8, saves: usize, last: &str) -> bool {
-    let story = ended.world.store.story();
-    let content = match story.last() {
-        Some(bytes) => bytes.as_slice() == last.as_bytes(),
-        None => last.is_empty(),
-    };
-    ended.status == status && story.len() == saves && content
+/// The name of a saved text; `same` for the one at the start.
+fn name_of(script: &Script<'_>, text: &[u8]) -> &'static str {
+    if text == script.content.as_bytes() {
+        "same"
+    } else if text == FIRST.as_bytes() {
+        "first"
+    } else if text == SECOND.as_bytes() {
+        "second"
+    } else if text == NAMED.as_bytes() {
+        "named"
+    } else {
+        "other"
+    }
+}
+
+/// The names of all saved texts, the one at the start before them.
+fn saves_of(alloc: Global, script: &Script<'_>, story: &[Bytes]) -> Result<String, AllocError> {
+    let mut names = String::new(alloc);
+    for text in story {
+        names.push(' ')?;
+        names.push_str(name_of(script, text.as_slice()))?;
+    }
+    Ok(names)
+}
+
+/// The place of bad words, or the bytes of a bad frame.
+fn refused(alloc: Global, outcome: &Outcome) -> Result<String, AllocError> {
+    match outcome {
+        Outcome::BadWords { place } => format!(in alloc; "{place}"),
+        Outcome::BadFrame { bytes, .. } => {
+            String::from_str(alloc, str::from_utf8(bytes.as_slice()).unwrap_or("no text"))
+        }
+        _ => Ok(String::new(alloc)),
+    }
+}
+
+/// The status, the names of the saves, and behind strokes what was printed, each line up to a `/`, and what was refused.
+fn told(alloc: Global, script: &Script<'_>, ended: &Ended) -> Result<String, AllocError> {
+    let saves = saves_of(alloc, script, ended.world.store.story())?;
+    let printed = str::from_utf8(ended.world.sink.written()).unwrap_or("no text");
+    let refused = refused(alloc, &ended.outcome)?;
+    let lines = printed.replace(alloc, "\n", "/")?;
+    format!(in alloc; "{}:{saves}|{lines}|{refused}", ended.status)
+}
+
+/// What is told of the script's run.
+fn seen<R: Threads + Wait + Sync>(
+    rt: &R,
+    alloc: Global,
+    script: &Script<'_>,
+) -> Result<String, AllocError> {
+    let ended = run(rt, alloc, script)?;
+    told(alloc, script, &ended)
+}
+
+fn is_seen<R: Threads + Wait + Sync>(
+    rt: &R,
+    alloc: Global,
+    script: &Script<'_>,
+    want: &str,
+) -> Result<bool, AllocError> {
+    let found = seen(rt, alloc, script)?;
+    Ok(found.as_str() == want)
 }
 
 /// The bytes that the host was given.
-fn answers(alloc: Global, ended: &Ended) -> Result<Vec<u8>, AllocError> {
+fn given(alloc: Global, ended: &Ended) -> Result<Vec<u8>, AllocError> {
     match &ended.run.host {
         Some((_, writing)) => match writing.given_bytes(alloc) {
             Ok(bytes) => Ok(bytes.into_vec()),
@@ -192,218 +262,133 @@ fn answers(alloc: Global, ended: &Ended) -> Result<Vec<u8>, AllocError> {
     }
 }
 
-/// Runs the script, and says whether it ended so.
-fn ends_so<R: Threads + Wait + Sync>(
-    rt: &R,
-    alloc: Global,
-    script: &Script<'_>,
-    status: u8,
-    saves: usize,
-    last: &str,
-) -> Result<bool, AllocError> {
-    let ended = run(rt, alloc, script)?;
-    Ok(ended_so(&ended, status, saves, last))
+/// What the host is given where it registers two components.
+fn answers<R: Threads + Wait + Sync>(rt: &R, alloc: Global) -> Result<Vec<u8>, AllocError> {
+    let ended = run(rt, alloc, &plain(UP, TWO, EMPTY))?;
+    given(alloc, &ended)
 }
 
-/// Whether two components leave both saves and both answers, byte for byte.
-fn leaves_all<R: Threads + Wait + Sync>(rt: &R, alloc: Global) -> Result<bool, AllocError> {
-    let ended = run(rt, alloc, &plain(TWO))?;
-    let first = match ended.world.store.story().first() {
-        Some(bytes) => bytes.as_slice() == FIRST.as_bytes(),
-        None => false,
-    };
-    let given = answers(alloc, &ended)?;
-    let want =
-        b"\0\0\0\x55{\"n\":1,\"ok\":{\"outputs\":{},\"urn\":\"urn:pulumi:dev::web::pulumi:pulumi:Stack::web-dev\"}}\0\0\0\x49{\"n\":2,\"ok\":{\"outputs\":{},\"urn\":\"urn:pulumi:dev::web::my:index:Site::s\"}}";
-    Ok(first && ended_so(&ended, 0, 2, SECOND) && given.as_slice() == want.as_slice())
-}
-
-/// How many saves stand when the host's bytes end here, and the last content.
-fn saved_by(cut: usize) -> (usize, &'static str) {
+/// What is told when the host's bytes end here.
+fn wanted_at(cut: usize) -> &'static str {
     if cut < 90 {
-        (0, EMPTY)
+        "6:||"
     } else if cut < 90 + 124 {
-        (1, FIRST)
+        "6: first||"
     } else {
-        (2, SECOND)
+        "6: first second||"
     }
 }
 
-/// The first place at which the host's output ends and the run ends otherwise than it should.
-fn bad_cut<R: Threads + Wait + Sync>(rt: &R, alloc: Global) -> Result<Option<usize>, AllocError> {
-    for cut in 0..233usize {
-        let mut script = plain(TWO);
-        script.cut = cut;
-        script.chunk = cut % 7;
-        let (saves, last) = saved_by(cut);
-        if !ends_so(rt, alloc, &script, 6, saves, last)? {
-            return Ok(Some(cut));
-        }
-    }
-    Ok(None)
-}
-
-/// What fails.
-#[derive(Clone, Copy)]
-enum Failing {
-    Start,
-    Store,
-    /// The bytes of the save arrive all the same.
-    Save,
-    Reading,
-    Writing,
-}
-
-/// Two components, where these calls fail.
-fn script_for<'a>(part: Failing, calls: &'a [u64]) -> Script<'a> {
-    let mut script = plain(TWO);
-    match part {
-        Failing::Start => script.spawner_fails = calls,
-        Failing::Store => script.store_fails = calls,
-        Failing::Save => {
-            script.store_fails = calls;
-            script.store_arrives = calls;
-        }
-        Failing::Reading => script.reading_fails = calls,
-        Failing::Writing => script.writing_fails = calls,
-    }
-    script
-}
-
-/// The place in the table of the first failing call after which the run ends otherwise than it should.
-fn bad_failure<R: Threads + Wait + Sync>(
+/// Whether a run whose host's output ends here is told as it should be.
+fn is_cut_so<R: Threads + Wait + Sync>(
     rt: &R,
     alloc: Global,
-) -> Result<Option<usize>, AllocError> {
-    let cases = [
-        (Failing::Start, 0u64, 0usize, EMPTY),
-        (Failing::Store, 0, 0, EMPTY),
-        (Failing::Store, 1, 0, EMPTY),
-        (Failing::Store, 2, 1, FIRST),
-        (Failing::Save, 2, 2, SECOND),
-        (Failing::Reading, 0, 0, EMPTY),
-        (Failing::Reading, 1, 0, EMPTY),
-        (Failing::Reading, 2, 1, FIRST),
-        (Failing::Reading, 3, 1, FIRST),
-        (Failing::Reading, 4, 2, SECOND),
-        (Failing::Reading, 5, 2, SECOND),
-        (Failing::Writing, 0, 1, FIRST),
-        (Failing::Writing, 1, 1, FIRST),
-        (Failing::Writing, 2, 2, SECOND),
-        (Failing::Writing, 3, 2, SECOND),
-    ];
-    for (at, (part, call, saves, last)) in cases.into_iter().enumerate() {
-        let calls = [call];
-        if !ends_so(rt, alloc, &script_for(part, &calls), 5, saves, last)? {
-            return Ok(Some(at));
-        }
-    }
-    Ok(None)
-}
-
-/// The first content over which no run begins and which is judged otherwise than it should be.
-fn bad_content<R: Threads + Wait + Sync>(
-    rt: &R,
-    alloc: Global,
-) -> Result<Option<&'static str>, AllocError> {
-    for (content, status) in [(FIRST, 3u8), ("{}", 3), (WAITING, 4)] {
-        let mut script = plain(TWO);
-        script.content = content;
-        if !ends_so(rt, alloc, &script, status, 1, content)? {
-            return Ok(Some(content));
-        }
-    }
-    Ok(None)
-}
-
-/// Whether a run over a state without resources keeps its name and its unread fields.
-fn goes_on<R: Threads + Wait + Sync>(rt: &R, alloc: Global) -> Result<bool, AllocError> {
-    let mut script = plain(&[STACK, DONE]);
-    script.content = NOTHING;
-    ends_so(rt, alloc, &script, 0, 2, NAMED)
-}
-
-/// Whether these words over this content end with the status, print the text and leave the content.
-fn prints<R: Threads + Wait + Sync>(
-    rt: &R,
-    alloc: Global,
-    script: &Script<'_>,
-    status: u8,
-    text: &str,
+    cut: usize,
 ) -> Result<bool, AllocError> {
-    let ended = run(rt, alloc, script)?;
-    let saves = if script.content.is_empty() { 0 } else { 1 };
-    let printed = ended.world.sink.written() == text.as_bytes();
-    Ok(printed && ended_so(&ended, status, saves, script.content))
+    let mut script = plain(UP, TWO, EMPTY);
+    script.cut = cut;
+    script.chunk = cut % 7;
+    is_seen(rt, alloc, &script, wanted_at(cut))
 }
 
-/// Whether these words over this content end with the status, print the text and leave the content, where nothing fails.
-fn lists<R: Threads + Wait + Sync>(
+/// Calls that fail where two components are registered, and what is told then.
+const FAILURES: &str = r#"start 0 => 5:||
+store 0 => 5:||
+store 1 => 5:||
+store 2 => 5: first||
+late 2 => 5: first second||
+reading 0 => 5:||
+reading 1 => 5:||
+reading 2 => 5: first||
+reading 3 => 5: first||
+reading 4 => 5: first second||
+reading 5 => 5: first second||
+writing 0 => 5: first||
+writing 1 => 5: first||
+writing 2 => 5: first second||
+writing 3 => 5: first second||"#;
+
+/// What stands before the first arrow of a line and what stands behind it.
+fn cells(line: &str) -> (&str, &str) {
+    match line.split_once(" => ") {
+        Some(cells) => cells,
+        None => (line, ""),
+    }
+}
+
+fn fails_so<R: Threads + Wait + Sync>(
     rt: &R,
     alloc: Global,
-    words: &'static [&'static str],
-    content: &'static str,
-    status: u8,
-    text: &'static str,
+    line: &str,
 ) -> Result<bool, AllocError> {
-    let mut script = script_of(words, NO_MESSAGES);
-    script.content = content;
-    prints(rt, alloc, &script, status, text)
+    let (fails, want) = cells(line);
+    let mut script = plain(UP, TWO, EMPTY);
+    script.fails = fails;
+    is_seen(rt, alloc, &script, want)
 }
 
-/// Whether `state` tells what there is.
-fn lists_states<R: Threads + Wait + Sync>(rt: &R, alloc: Global) -> Result<bool, AllocError> {
-    let two = "sound: 2 resources, 0 pending\n";
-    let waiting = "sound: 1 resources, 1 pending\n";
-    Ok(
-        lists(rt, alloc, LIST, EMPTY, 0, "")?
-            && lists(
-                rt,
-                alloc,
-                CHECK,
-                EMPTY,
-                0,
-                "sound: 0 resources, 0 pending\n",
-            )?
-            && lists(rt, alloc, LIST, SECOND, 0, URNS)?
-            && lists(rt, alloc, CHECK, SECOND, 0, two)?
-            && lists(rt, alloc, CHECK, WAITING, 0, waiting)?,
-    )
+/// Whether a `state` over two components where this fails is told so.
+fn state_fails_so<R: Threads + Wait + Sync>(
+    rt: &R,
+    alloc: Global,
+    fails: &str,
+    want: &str,
+) -> Result<bool, AllocError> {
+    let mut script = plain("state list", EMPTY, SECOND);
+    script.fails = fails;
+    is_seen(rt, alloc, &script, want)
 }
 
-/// Whether `state` tells why there is no state.
-fn tells_bad_states<R: Threads + Wait + Sync>(rt: &R, alloc: Global) -> Result<bool, AllocError> {
-    let no_json = "stopped: BadCheckpoint NotJson\n";
-    let missing = "stopped: BadCheckpoint MissingField version\n";
-    let unsound = "stopped: BadCheckpoint Unsound\n";
-    Ok(
-        lists(rt, alloc, LIST, "x", 3, no_json)?
-            && lists(rt, alloc, LIST, "{}", 3, missing)?
-            && lists(rt, alloc, CHECK, CHILD_FIRST, 3, unsound)?,
-    )
+/// Words, the name of the messages, the name of what the store has, and what is told of a run in which nothing fails. A run
+/// begins over no resources alone, and keeps their name and unread fields; `state` tells what there is, or why there is no
+/// state.
+const RUNS: &str = r#"up --stack dev --project web -- h => done => nothing => 0:||
+up --stack dev --project web -- h => two => nothing => 0: first second||
+up --stack dev --project web -- h => one => no resources => 0: same named||
+up --stack dev --project web -- h => two => first => 3: same||
+up --stack dev --project web -- h => two => {} => 3: same||
+up --stack dev --project web -- h => two => waiting => 4: same||
+ => done => nothing => 2:||0
+up --stack => done => nothing => 2:||1
+up --stack dev -- h => done => nothing => 2:||3
+list => none => second => 2: same||0
+state => none => second => 2: same|stopped: BadWords 1/|1
+state list -- h => none => second => 2: same|stopped: BadWords 2/|2
+state list => none => nothing => 0:||
+state check => none => nothing => 0:|sound: 0 resources, 0 pending/|
+state list => none => second => 0: same|urn:pulumi:dev::web::pulumi:pulumi:Stack::web-dev/urn:pulumi:dev::web::my:index:Site::s/|
+state check => none => second => 0: same|sound: 2 resources, 0 pending/|
+state check => none => waiting => 0: same|sound: 1 resources, 1 pending/|
+state list => none => x => 3: same|stopped: BadCheckpoint NotJson/|
+state list => none => {} => 3: same|stopped: BadCheckpoint MissingField version/|
+state check => none => child first => 3: same|stopped: BadCheckpoint Unsound/|"#;
+
+/// The text of this name; a name that is none is the text itself.
+fn text_of<'a>(name: &'a str) -> &'a str {
+    match name {
+        "done" => DONE,
+        "one" => ONE,
+        "two" => TWO,
+        "none" | "nothing" => EMPTY,
+        "no resources" => NOTHING,
+        "first" => FIRST,
+        "second" => SECOND,
+        "waiting" => WAITING,
+        "child first" => CHILD_FIRST,
+        text => text,
+    }
 }
 
-/// Whether bad words of `state` are told, and those of no command end without a line.
-fn tells_bad_words<R: Threads + Wait + Sync>(rt: &R, alloc: Global) -> Result<bool, AllocError> {
-    Ok(
-        lists(rt, alloc, BARE, SECOND, 2, "stopped: BadWords 1\n")?
-            && lists(rt, alloc, HOSTED, SECOND, 2, "stopped: BadWords 2\n")?
-            && lists(rt, alloc, NO_COMMAND, SECOND, 2, "")?,
-    )
-}
-
-/// Whether faults of the store and of the sink end `state`.
-fn tells_faults<R: Threads + Wait + Sync>(rt: &R, alloc: Global) -> Result<bool, AllocError> {
-    let mut unread = script_of(CHECK, &[]);
-    unread.content = SECOND;
-    unread.store_fails = &[0];
-    let mut unwritten = script_of(LIST, &[]);
-    unwritten.content = SECOND;
-    unwritten.sink_fails = &[0];
-    Ok(
-        prints(rt, alloc, &unread, 5, "stopped: StoreFault\n")?
-            && prints(rt, alloc, &unwritten, 5, "")?,
-    )
+fn runs_so<R: Threads + Wait + Sync>(
+    rt: &R,
+    alloc: Global,
+    line: &str,
+) -> Result<bool, AllocError> {
+    let (words, rest) = cells(line);
+    let (messages, rest) = cells(rest);
+    let (content, want) = cells(rest);
+    let script = plain(words, text_of(messages), text_of(content));
+    is_seen(rt, alloc, &script, want)
 }
 
 /// The text of the bucket of this number, with fields that the engine doesn't read.
@@ -458,94 +443,81 @@ fn realistic_state(alloc: Global) -> Result<String, AllocError> {
 /// Whether the realistic state is sound.
 fn checks_realistic<R: Threads + Wait + Sync>(rt: &R, alloc: Global) -> Result<bool, AllocError> {
     let state = realistic_state(alloc)?;
-    let mut script = script_of(CHECK, &[]);
-    script.content = state.as_str();
-    prints(rt, alloc, &script, 0, "sound: 12 resources, 0 pending\n")
+    let script = plain("state check", EMPTY, state.as_str());
+    is_seen(
+        rt,
+        alloc,
+        &script,
+        "0: same|sound: 12 resources, 0 pending/|",
+    )
 }
 
-/// The first message that may not stand there and of which the outcome has other bytes, or a save is lost.
-fn bad_message<R: Threads + Wait + Sync>(
-    rt: &R,
-    alloc: Global,
-) -> Result<Option<&'static str>, AllocError> {
-    let cases = [
-        "x",
-        "{}",
-        r#"{"call":"delete"}"#,
-        r#"{"call":"register","n":1,"name":"s","type":"my:index:Site"}"#,
-        r#"{"call":"register","n":2,"name":"web-dev","type":"pulumi:pulumi:Stack"}"#,
-        r#"{"call":"register","n":2,"name":"s","parent":"urn:none","type":"my:index:Site"}"#,
-        r#"{"call":"register","n":2,"name":"s","type":"pulumi:providers:aws"}"#,
-        r#"{"call":"register","custom":true,"n":2,"name":"s","type":"my:index:Site"}"#,
-    ];
-    for message in cases {
-        let ended = run(rt, alloc, &plain(&[STACK, message, DONE]))?;
-        let kept = match &ended.outcome {
-            Outcome::BadFrame { bytes, .. } => bytes.as_slice() == message.as_bytes(),
-            _ => false,
-        };
-        if !kept || !ended_so(&ended, 6, 1, FIRST) {
-            return Ok(Some(message));
-        }
-    }
-    Ok(None)
-}
+/// Messages that may not stand behind the registration of the stack's own component.
+const BAD_MESSAGES: &str = r#"x
+{}
+{"call":"delete"}
+{"call":"register","n":1,"name":"s","type":"my:index:Site"}
+{"call":"register","n":2,"name":"web-dev","type":"pulumi:pulumi:Stack"}
+{"call":"register","n":2,"name":"s","parent":"urn:none","type":"my:index:Site"}
+{"call":"register","n":2,"name":"s","type":"pulumi:providers:aws"}
+{"call":"register","custom":true,"n":2,"name":"s","type":"my:index:Site"}"#;
 
-/// The place that the words are refused at; the greatest number where the call ends otherwise.
-fn refused_at<R: Threads + Wait + Sync>(
+/// Whether the message ends the run as a bad frame with its bytes, and the save before it is left.
+fn is_bad_frame<R: Threads + Wait + Sync>(
     rt: &R,
     alloc: Global,
-    words: &[&str],
-) -> Result<u64, AllocError> {
-    let ended = run(rt, alloc, &script_of(words, &[DONE]))?;
-    match ended.outcome {
-        Outcome::BadWords { place } if ended.status == 2 => Ok(place),
-        _ => Ok(u64::MAX),
-    }
+    message: &str,
+) -> Result<bool, AllocError> {
+    let messages = format!(in alloc; "{STACK}\n{message}\n{DONE}")?;
+    let want = format!(in alloc; "6: first||{message}")?;
+    is_seen(
+        rt,
+        alloc,
+        &plain(UP, messages.as_str(), EMPTY),
+        want.as_str(),
+    )
 }
 
 #[test]
 fn components_are_served(rt: HostRuntime) -> Result<(), Fail> {
-    assert!(rt;
-        ends_so(&rt, rt.alloc(), &plain(&[DONE]), 0, 0, EMPTY)?,
-        "an empty program"
-    );
-    assert!(rt; leaves_all(&rt, rt.alloc())?, "two components");
+    for line in RUNS.split('\n') {
+        assert!(rt; runs_so(&rt, rt.alloc(), line)?, "{line}");
+    }
+    let answers = answers(&rt, rt.alloc())?;
+    assert!(rt; answers.as_slice() == ANSWERS.as_bytes(), "the answers");
     Ok(())
 }
 
 #[test]
 fn host_bytes_are_cut_anywhere(rt: HostRuntime) -> Result<(), Fail> {
-    assert_eq!(rt; bad_cut(&rt, rt.alloc())?, None);
+    for cut in 0..233usize {
+        assert!(rt; is_cut_so(&rt, rt.alloc(), cut)?, "{cut}");
+    }
     Ok(())
 }
 
 #[test]
 fn calls_fail_in_turn(rt: HostRuntime) -> Result<(), Fail> {
-    assert_eq!(rt; bad_failure(&rt, rt.alloc())?, None);
+    for line in FAILURES.split('\n') {
+        assert!(rt; fails_so(&rt, rt.alloc(), line)?, "{line}");
+    }
+    let store = state_fails_so(&rt, rt.alloc(), "store 0", "5: same|stopped: StoreFault/|")?;
+    assert!(rt; store, "the store");
+    let sink = state_fails_so(&rt, rt.alloc(), "sink 0", "5: same||")?;
+    assert!(rt; sink, "the sink");
     Ok(())
 }
 
 #[test]
-fn nothing_is_lost(rt: HostRuntime) -> Result<(), Fail> {
-    assert_eq!(rt; bad_content(&rt, rt.alloc())?, None);
-    assert!(rt; goes_on(&rt, rt.alloc())?, "unread fields stay");
-    assert_eq!(rt; bad_message(&rt, rt.alloc())?, None);
-    assert_eq!(rt; refused_at(&rt, rt.alloc(), &[])?, 0);
-    assert_eq!(rt; refused_at(&rt, rt.alloc(), &["up", "--stack"])?, 1);
-    assert_eq!(rt;
-        refused_at(&rt, rt.alloc(), &["up", "--stack", "dev", "--", "h"])?,
-        3
-    );
+fn bad_messages_lose_nothing(rt: HostRuntime) -> Result<(), Fail> {
+    for message in BAD_MESSAGES.split('\n') {
+        assert!(rt; is_bad_frame(&rt, rt.alloc(), message)?, "{message}");
+    }
     Ok(())
 }
 
 #[test]
-fn states_are_listed(rt: HostRuntime) -> Result<(), Fail> {
-    assert!(rt; lists_states(&rt, rt.alloc())?, "states");
-    assert!(rt; tells_bad_states(&rt, rt.alloc())?, "bad states");
-    assert!(rt; tells_bad_words(&rt, rt.alloc())?, "bad words");
-    assert!(rt; tells_faults(&rt, rt.alloc())?, "faults of store and sink");
+fn realistic_states_are_sound(rt: HostRuntime) -> Result<(), Fail> {
     assert!(rt; checks_realistic(&rt, rt.alloc())?, "a realistic state");
     Ok(())
 }
