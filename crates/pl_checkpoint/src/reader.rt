@@ -3,7 +3,8 @@ ghost use Rattle.serde_json.specs.Data.{no_members};
 ghost use Rattle.serde_json.specs.View.{members_view, view};
 ghost use Rattle.pl_checkpoint_text.specs.Formed.{IsFormed};
 ghost use Rattle.pl_checkpoint_text.specs.Laws.{AreValued};
-ghost use Rattle.pl_checkpoint_text.specs.Read.{checkpoint_read, data_reading, json_of, reading_of, Tells, TellsAs, TellsFault};
+ghost use Rattle.pl_json.specs.Texts.{json_of};
+ghost use Rattle.pl_checkpoint_text.specs.Read.{checkpoint_read, data_reading, reading_of, Tells, TellsAs, TellsFault};
 ghost use Rattle.pl_checkpoint_text.specs.ReadField.{members_in, optional, required};
 
 use crate::deployment::deployment_of;

@@ -14,8 +14,10 @@ use Rattle.serde_json.specs.Written.{compact_text}
 use Rattle.pl_checkpoint_text.specs.Formed.{is_one_of, are_other, IsUnread, IsFormedEntry}
 use Rattle.pl_checkpoint_text.specs.ReadEntry.{other_members}
 use Rattle.pl_checkpoint_text.specs.Laws.{HasValues}
-use Rattle.pl_checkpoint_text.specs.Spelled.{Field, with_fields, entry_fields, entry_data, pending_data, unread_fields}
-use Rattle.pl_checkpoint_text.proofs.Fields.{Key, over, found, get_member-with_fields, get_member-other, other_members-other, other_members-with_fields}
+use Rattle.pl_json.specs.Objects.{Field, with_fields}
+use Rattle.pl_checkpoint_text.specs.Spelled.{entry_fields, entry_data, pending_data, unread_fields}
+use Rattle.pl_json.proofs.Objects.{over, over_none}
+use Rattle.pl_checkpoint_text.proofs.Fields.{Key, found, get_member-with_fields, get_member-other, other_members-other, other_members-with_fields}
 use Rattle.pl_checkpoint_text.proofs.Parts.{same_flag, same_text, same_texts, same_values, same_properties, same_provider, same_kind}
 
 -- ---- fields among others
@@ -31,10 +33,6 @@ pub other_members-own : (fields : List Field) (ms : Members) → are_other (keys
     → list_all (λ field. is_one_of (keys_of fields) field.0) fields ≡ true → other_members (keys_of fields) (with_fields fields ms) ≡ ms
 other_members-own fields ms other own =
     other_members-with_fields (keys_of fields) fields ms own ∙ other_members-other (keys_of fields) ms other
-
-pub over_none : (value : Option Data) → over value None ≡ value
-over_none None = refl
-over_none (Some value) = refl
 
 bare : (one two : Option Data) → over one None ≡ over two None → one ≡ two
 bare one two same = sym (over_none one) ∙ same ∙ over_none two

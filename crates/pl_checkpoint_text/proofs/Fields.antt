@@ -10,25 +10,16 @@ use Rattle.std.specs.Ordering.{nat_cmp, match_ordering}
 use Rattle.serde_json.specs.Data.{Data, Members, no_members, member, put}
 use Rattle.serde_json.specs.Find.{get_member}
 use Rattle.serde_json.proofs.Views.{get_member-put, get_member-put_other}
-use Rattle.pl_checkpoint_text.specs.Spelled.{Field, put_if_some, with_fields, texts_data, property_field}
+use Rattle.pl_json.specs.Objects.{Field, put_if_some, with_fields, texts_data}
+use Rattle.pl_checkpoint_text.specs.Spelled.{property_field}
 use Rattle.pl_checkpoint_text.specs.Formed.{is_one_of, are_other}
 use Rattle.pl_checkpoint_text.specs.ReadEntry.{other_members}
+use Rattle.pl_json.proofs.Objects.{over, with_fields-push}
 
 abbrev pub Key : Type 0
 Key = List ℕ
 
--- a field more, at the end
-pub with_fields-push : (fields : List Field) (field : Field) (ms : Members)
-    → with_fields (fields ++ field ∷ []) ms ≡ put_if_some field.0 field.1 (with_fields fields ms)
-with_fields-push [] field ms = refl
-with_fields-push (first ∷ more) field ms = with_fields-push more field (put_if_some first.0 first.1 ms)
-
 -- ---- what stands under a key
-
--- what is written over what stood there
-abbrev pub over : Option Data → Option Data → Option Data
-over None before = before
-over (Some value) before = Some value
 
 -- what the fields leave under a key where something stood before
 abbrev pub found : List Field → Key → Option Data → Option Data

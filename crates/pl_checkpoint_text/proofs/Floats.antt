@@ -13,24 +13,10 @@ use Rattle.serde_json.specs.Find.{as_object, get_member}
 use Rattle.serde_json.specs.Read.{read}
 use Rattle.serde_json.specs.View.{items_of}
 use Rattle.serde_json.specs.Written.{has_float, items_have_float, members_have_float}
-use Rattle.pl_checkpoint_text.specs.Spelled.{Field, put_if_some, with_fields, flag_data, text_data, unless_empty, texts_data, property_field, properties_data, whole_members, unread_fields, entry_fields, entry_data, pending_data, with_manifest}
+use Rattle.pl_json.specs.Objects.{Field, put_if_some, with_fields, flag_data, text_data, unless_empty, texts_data}
+use Rattle.pl_checkpoint_text.specs.Spelled.{property_field, properties_data, whole_members, unread_fields, entry_fields, entry_data, pending_data, with_manifest}
 use Rattle.pl_checkpoint_text.specs.Pieces.{with_places}
-
-either_whole : (o : Ordering) (a b c : Members) → members_have_float a ≡ false → members_have_float b ≡ false → members_have_float c ≡ false
-    → members_have_float (match_ordering o a b c) ≡ false
-either_whole Less a b c x y z = x
-either_whole Equal a b c x y z = y
-either_whole Greater a b c x y z = z
-
-members_have_float-put : (key : List ℕ) (value : Data) (ms : Members) → has_float value ≡ false → members_have_float ms ≡ false
-    → members_have_float (put key value ms) ≡ false
-members_have_float-put key value no_members none all = or_from _ _ none refl
-members_have_float-put key value (member first here more) none all =
-    let parts = or_parts (has_float here) (members_have_float more) all in
-    either_whole (slice_cmp nat_cmp key first) _ _ _
-    (or_from _ _ none all)
-    (or_from _ _ none parts.1)
-    (or_from _ _ parts.0 (members_have_float-put key value more none parts.1))
+use Rattle.pl_json.proofs.Objects.{items-whole, put-whole}
 
 -- whether what is written of a field has a float
 abbrev field_has_float : Option Data → Bool
@@ -44,7 +30,7 @@ fields_have_float (field ∷ more) = field_has_float field.1 || fields_have_floa
 put_if_some-whole : (key : List ℕ) (value : Option Data) (ms : Members) → field_has_float value ≡ false → members_have_float ms ≡ false
     → members_have_float (put_if_some key value ms) ≡ false
 put_if_some-whole key None ms none all = all
-put_if_some-whole key (Some value) ms none all = members_have_float-put key value ms none all
+put_if_some-whole key (Some value) ms none all = put-whole key value ms none all
 
 with_fields-whole : (fields : List Field) (ms : Members) → fields_have_float fields ≡ false → members_have_float ms ≡ false
     → members_have_float (with_fields fields ms) ≡ false
@@ -67,16 +53,12 @@ list_whole : {X : Type 0} (list : List X) (value : Data) → has_float value ≡
 list_whole [] value none = refl
 list_whole (first ∷ more) value none = none
 
-items_whole : (texts : List (List ℕ)) → items_have_float (items_of (map string texts)) ≡ false
-items_whole [] = refl
-items_whole (text ∷ more) = items_whole more
-
 texts_whole : (texts : List (List ℕ)) → field_has_float (unless_empty texts (texts_data texts)) ≡ false
-texts_whole texts = list_whole texts _ (items_whole texts)
+texts_whole texts = list_whole texts _ (items-whole texts)
 
 property_fields_whole : (pairs : List (List ℕ × List (List ℕ))) → fields_have_float (map property_field pairs) ≡ false
 property_fields_whole [] = refl
-property_fields_whole (pair ∷ more) = or_from _ _ (items_whole pair.1) (property_fields_whole more)
+property_fields_whole (pair ∷ more) = or_from _ _ (items-whole pair.1) (property_fields_whole more)
 
 properties_whole : (pairs : List (List ℕ × List (List ℕ))) → field_has_float (unless_empty pairs (properties_data pairs)) ≡ false
 properties_whole pairs = list_whole pairs _ (with_fields-whole (map property_field pairs) no_members (property_fields_whole pairs) refl)
@@ -133,7 +115,7 @@ pending_whole operation = or_from _ _ (entry_whole operation.entry) refl
 manifest_whole : (b : Bool) (ms : Members) → members_have_float ms ≡ false
     → members_have_float (if b then ms else put (codes "manifest") (object no_members) ms) ≡ false
 manifest_whole true ms all = all
-manifest_whole false ms all = members_have_float-put _ _ ms refl all
+manifest_whole false ms all = put-whole _ _ ms refl all
 
 -- a deployment's members without its lists have no float
 pub with_places-whole : (text : List ℕ) → members_have_float (with_places (unread_fields text)) ≡ false
@@ -141,5 +123,5 @@ with_places-whole text =
     let ms = with_manifest (unread_fields text) in
     let whole : members_have_float ms ≡ false =
     manifest_whole (is_some (get_member (codes "manifest") (unread_fields text))) (unread_fields text) (unread_whole text) in
-    members_have_float-put (codes "resources") null (put (codes "pending_operations") null ms) refl
-    (members_have_float-put (codes "pending_operations") null ms refl whole)
+    put-whole (codes "resources") null (put (codes "pending_operations") null ms) refl
+    (put-whole (codes "pending_operations") null ms refl whole)

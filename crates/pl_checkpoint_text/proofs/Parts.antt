@@ -20,7 +20,8 @@ use Rattle.serde_json.specs.View.{items_of}
 use Rattle.serde_json.specs.Written.{compact_text}
 use Rattle.pl_checkpoint_text.specs.Formed.{reads_back}
 use Rattle.pl_reference.specs.Reference.{reference_text}
-use Rattle.pl_checkpoint_text.specs.Spelled.{with_fields, flag_data, text_data, unless_empty, texts_data, property_field, properties_data, kind_word}
+use Rattle.pl_json.specs.Objects.{with_fields, flag_data, text_data, unless_empty, texts_data}
+use Rattle.pl_checkpoint_text.specs.Spelled.{property_field, properties_data, kind_word}
 
 pub same_flag : (one other : Bool) → flag_data one ≡ flag_data other → one ≡ other
 same_flag true true same = refl

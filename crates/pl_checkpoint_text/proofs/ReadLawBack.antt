@@ -12,8 +12,10 @@ use Rattle.pl_checkpoint_text.specs.Laws.{HasValues}
 use Rattle.pl_checkpoint_text.specs.ReadEntry.{entry_in, entry_keys, entry_of, kind_in, other_members, pending_in, pending_of, unread_by, unread_of}
 use Rattle.pl_checkpoint_text.specs.ReadField.{field_path, flag_in, nonempty_in, optional, properties_in, reference_of, required, some_in, text_of, texts_in, unless_null, urn_in, urn_of, urns_in, values_in}
 use Rattle.pl_checkpoint_text.specs.ReadLaws.{HasUrns}
-use Rattle.pl_checkpoint_text.specs.Spelled.{entry_data, entry_fields, kind_word, pending_data, unread_fields, with_fields}
-use Rattle.pl_checkpoint_text.proofs.EntryTells.{get_member-own, other_members-own, over_none, own_keys}
+use Rattle.pl_json.specs.Objects.{with_fields}
+use Rattle.pl_checkpoint_text.specs.Spelled.{entry_data, entry_fields, kind_word, pending_data, unread_fields}
+use Rattle.pl_json.proofs.Objects.{over_none}
+use Rattle.pl_checkpoint_text.proofs.EntryTells.{get_member-own, other_members-own, own_keys}
 use Rattle.pl_checkpoint_text.proofs.Fields.{Key}
 use Rattle.pl_checkpoint_text.proofs.ReadLawEntry.{IsTold, keys_same}
 use Rattle.pl_checkpoint_text.proofs.ReadLawKinds.{then_ok, required_some, flag_back, bool_back, text_back, kind_back, urn_back, some_urn_back, provider_back, texts_back, urns_back, values_back, properties_back}

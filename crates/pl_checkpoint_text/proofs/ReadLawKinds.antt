@@ -20,7 +20,8 @@ use Rattle.serde_json.specs.Find.{get_member}
 use Rattle.serde_json.specs.View.{items_of}
 use Rattle.pl_checkpoint_text.specs.Formed.{reads_back}
 use Rattle.pl_checkpoint_text.specs.ReadField.{Reading, ◌>>=◌, element_path, elements, field_path, flag_in, nonempty_in, optional, or_default, or_missing, properties_in, properties_of, reference_found, reference_of, required, some_in, text_in, text_of, texts_in, unless_null, urn_in, urn_of, urns_in, values_fault, values_in}
-use Rattle.pl_checkpoint_text.specs.Spelled.{flag_data, text_data, unless_empty, texts_data, properties_data}
+use Rattle.pl_json.specs.Objects.{flag_data, text_data, unless_empty, texts_data}
+use Rattle.pl_checkpoint_text.specs.Spelled.{properties_data}
 use Rattle.pl_checkpoint_text.proofs.Parts.{Pairs, in_order, rising_in_order}
 
 -- ---- readings one after another

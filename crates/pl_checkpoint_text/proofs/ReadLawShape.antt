@@ -29,7 +29,8 @@ use Rattle.serde_json.specs.View.{items_of}
 use Rattle.serde_json.specs.Written.{members_have_float}
 use Rattle.pl_checkpoint_text.specs.Formed.{IsFormed, IsFormedEntry}
 use Rattle.pl_checkpoint_text.specs.Laws.{AreValued, HasValues}
-use Rattle.pl_checkpoint_text.specs.Spelled.{Field, checkpoint_data, deployment_data, deployment_fields, entries_data, entry_data, entry_fields, flag_data, pending_data, pendings_data, properties_data, property_field, put_if_some, stack_data, text_data, texts_data, unless_empty, unread_fields, whole_members, with_fields}
+use Rattle.pl_json.specs.Objects.{Field, flag_data, put_if_some, text_data, texts_data, unless_empty, with_fields}
+use Rattle.pl_checkpoint_text.specs.Spelled.{checkpoint_data, deployment_data, deployment_fields, entries_data, entry_data, entry_fields, pending_data, pendings_data, properties_data, property_field, stack_data, unread_fields, whole_members}
 use Rattle.pl_checkpoint_text.proofs.ReadLawProper.{is_signed, IsProper, ItemsAreProper, MembersAreProper, proper_put, proper_read}
 use Rattle.pl_checkpoint_text.proofs.TextTells.{with_manifest-there}
 use Rattle.pl_checkpoint_text.proofs.ReadLawState.{OfPending}

@@ -17,7 +17,8 @@ use Rattle.pl_state.specs.Formed.{most_resources}
 use Rattle.pl_checkpoint_text.specs.ReadEntry.{entry_in, other_members, pending_in, unread_of}
 use Rattle.pl_checkpoint_text.specs.ReadField.{Reading, elements, field_path, items_in, members_in, optional, required, unless_null}
 use Rattle.pl_checkpoint_text.specs.ReadLaws.{HasUrns, IsReadable, SpelledIsRead}
-use Rattle.pl_checkpoint_text.specs.Spelled.{checkpoint_data, deployment_data, deployment_fields, entries_data, entry_data, pending_data, pendings_data, stack_data, unread_fields, with_fields, with_manifest}
+use Rattle.pl_json.specs.Objects.{with_fields}
+use Rattle.pl_checkpoint_text.specs.Spelled.{checkpoint_data, deployment_data, deployment_fields, entries_data, entry_data, pending_data, pendings_data, stack_data, unread_fields, with_manifest}
 use Rattle.pl_checkpoint_text.proofs.EntryTells.{get_member-own, other_members-own}
 use Rattle.pl_checkpoint_text.proofs.Fields.{Key, get_member-with_fields}
 use Rattle.pl_checkpoint_text.proofs.ReadLawBack.{entry_read, pending_read, rest_back}

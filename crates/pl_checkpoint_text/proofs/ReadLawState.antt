@@ -23,7 +23,8 @@ use Rattle.serde_json.specs.Find.{as_object, as_str, get_member}
 use Rattle.serde_json.specs.Read.{read}
 use Rattle.pl_checkpoint_text.specs.Formed.{are_other, IsFormedEntry, IsUnread}
 use Rattle.pl_checkpoint_text.specs.Laws.{HasValues}
-use Rattle.pl_checkpoint_text.specs.Read.{checkpoint_read, count_items, count_of, data_reading, deployment_keys, deployment_of, first_unsound, json_of, makes_one, may_make, reading_of, stack_path, unless_unsound, unsound_at, version_of, with_own_manifest, within_limit}
+use Rattle.pl_json.specs.Texts.{json_of}
+use Rattle.pl_checkpoint_text.specs.Read.{checkpoint_read, count_items, count_of, data_reading, deployment_keys, deployment_of, first_unsound, makes_one, may_make, reading_of, stack_path, unless_unsound, unsound_at, version_of, with_own_manifest, within_limit}
 use Rattle.pl_state.specs.Formed.{most_resources}
 use Rattle.pl_checkpoint_text.specs.ReadEntry.{entry_in, kind_called, kind_in, other_members, pending_in, pending_of, unread_of}
 use Rattle.pl_checkpoint_text.specs.ReadField.{Reading, element_path, elements, field_path, given, items_in, members_in, of_kind, optional, or_default, required, text_in, unless_null}

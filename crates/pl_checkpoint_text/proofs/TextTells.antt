@@ -13,7 +13,8 @@ use Rattle.serde_json.specs.View.{items_of}
 use Rattle.pl_checkpoint_text.specs.Formed.{is_one_of, IsFormed}
 use Rattle.pl_checkpoint_text.specs.ReadEntry.{other_members}
 use Rattle.pl_checkpoint_text.specs.Laws.{AreValued, TextTellsState}
-use Rattle.pl_checkpoint_text.specs.Spelled.{with_fields, unread_fields, with_manifest, entry_data, entries_data, pending_data, pendings_data, deployment_fields, deployment_data, stack_data, checkpoint_data, checkpoint_text}
+use Rattle.pl_json.specs.Objects.{with_fields}
+use Rattle.pl_checkpoint_text.specs.Spelled.{unread_fields, with_manifest, entry_data, entries_data, pending_data, pendings_data, deployment_fields, deployment_data, stack_data, checkpoint_data, checkpoint_text}
 use Rattle.pl_checkpoint_text.proofs.EntryTells.{get_member-own, other_members-own, same_rest, same_entries, same_pendings}
 use Rattle.pl_checkpoint_text.proofs.Fields.{found}
 use Rattle.pl_checkpoint_text.proofs.Wholes.{checkpoint_wholes}

@@ -18,7 +18,8 @@ use Rattle.serde_json.specs.Find.{get_member}
 use Rattle.serde_json.specs.View.{items_of}
 use Rattle.pl_checkpoint_text.specs.Formed.{is_whole, has_wholes, items_have_wholes, members_have_wholes, IsFormedEntry, IsFormed}
 use Rattle.pl_checkpoint_text.specs.Laws.{HasValues, AreValued}
-use Rattle.pl_checkpoint_text.specs.Spelled.{Field, put_if_some, with_fields, flag_data, text_data, unless_empty, texts_data, property_field, properties_data, unread_fields, entry_fields, entry_data, entries_data, pending_data, pendings_data, with_manifest, deployment_fields, deployment_data, stack_data, checkpoint_data}
+use Rattle.pl_json.specs.Objects.{Field, put_if_some, with_fields, flag_data, text_data, unless_empty, texts_data}
+use Rattle.pl_checkpoint_text.specs.Spelled.{property_field, properties_data, unread_fields, entry_fields, entry_data, entries_data, pending_data, pendings_data, with_manifest, deployment_fields, deployment_data, stack_data, checkpoint_data}
 
 -- ---- data whose numbers are whole
 

@@ -18,6 +18,7 @@ use Rattle.pl_checkpoint_text.specs.ReadEntry.{entry_in, other_members, pending_
 use Rattle.pl_checkpoint_text.specs.ReadField.{Reading, ◌>>=◌, elements, field_path, given, items_in, members_in, optional, required, text_in}
 use Rattle.pl_checkpoint_text.specs.declared.fault.ReadFault.{ReadFault}
 use Rattle.pl_checkpoint_text.specs.declared.fault.ReadFault.TheVariants.{Bad, OutOfMemory}
+use Rattle.pl_json.specs.Texts.{json_of}
 
 -- ---- the version
 
@@ -123,10 +124,6 @@ checkpoint_read value = do
 abbrev pub data_reading : Option Data → Reading Snapshot
 data_reading None = Err bad.NotJson
 data_reading (Some value) = checkpoint_read value
-
--- the JSON value that the bytes spell
-abbrev pub json_of : List ℕ → Option Data
-json_of bytes = if is_utf8 bytes then read bytes else None
 
 -- the state that the bytes tell
 unfoldable pub reading_of : List ℕ → Reading Snapshot

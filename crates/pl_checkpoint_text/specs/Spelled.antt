@@ -1,6 +1,7 @@
 -- How a state is spelled: the checkpoint's data of version 3 and its text. An object's members stand in rising order of
 -- their keys.
 use Rattle.std.specs.Prelude.{ℕ, Bool, true, false, if◌then◌else◌, List, [], ◌∷◌, map, Option, Some, None, option_and_then, option_map, is_some, codes}
+use Rattle.pl_json.specs.Objects.{Field, with_fields, flag_data, text_data, unless_empty, texts_data}
 use Rattle.pl_json.specs.Spelled.{spelled_fields}
 use Rattle.pl_state.specs.declared.entry.Entry.{Entry}
 use Rattle.pl_state.specs.declared.pending.Pending.{Pending}
@@ -14,41 +15,7 @@ use Rattle.serde_json.specs.Read.{read}
 use Rattle.serde_json.specs.View.{items_of}
 use Rattle.serde_json.specs.Written.{compact_text, members_have_float}
 
--- ---- objects with fields that may be left out
-
--- a key, and what is written under it
-abbrev pub Field : Type 0
-Field = List ℕ × Option Data
-
--- the members with what is written under the key, in its place
-abbrev pub put_if_some : List ℕ → Option Data → Members → Members
-put_if_some key None ms = ms
-put_if_some key (Some value) ms = put key value ms
-
--- the members with each of the fields in its place
-abbrev pub with_fields : List Field → Members → Members
-with_fields [] ms = ms
-with_fields (field ∷ more) ms = with_fields more (put_if_some field.0 field.1 ms)
-
 -- ---- what stands under one key
-
--- a flag is written where it is set
-abbrev pub flag_data : Bool → Option Data
-flag_data false = None
-flag_data true = Some (boolean true)
-
--- a text is written where there is one
-abbrev pub text_data : Option (List ℕ) → Option Data
-text_data text = option_map string text
-
--- what belongs to a list is written where something is in the list
-abbrev pub unless_empty : {X : Type 0} → List X → Data → Option Data
-unless_empty [] value = None
-unless_empty (_ ∷ _) value = Some value
-
--- texts as an array
-abbrev pub texts_data : List (List ℕ) → Data
-texts_data texts = array (items_of (map string texts))
 
 -- the field of a property: the URNs that its value depends on, an empty array where there are none
 abbrev pub property_field : List ℕ × List (List ℕ) → Field

@@ -1,7 +1,8 @@
 ghost use Rattle.std.specs.Prelude.{◌≡◌, map, OnOk, IfOk, Some, option_map};
 ghost use Rattle.pl_json.specs.Spelled.{spelled_fields};
 ghost use Rattle.pl_reference.specs.Reference.{reference_text};
-ghost use Rattle.pl_checkpoint_text.specs.Spelled.{flag_data, properties_data, property_field, put_if_some, text_data, texts_data, unless_empty, with_fields};
+ghost use Rattle.pl_json.specs.Objects.{flag_data, put_if_some, text_data, texts_data, unless_empty, with_fields};
+ghost use Rattle.pl_checkpoint_text.specs.Spelled.{properties_data, property_field};
 ghost use Rattle.serde_json.specs.Data.{array, boolean, no_members, object, string};
 ghost use Rattle.serde_json.specs.View.{items_of, items_view, members_view, view};
 

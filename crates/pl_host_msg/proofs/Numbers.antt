@@ -9,7 +9,8 @@ use Rattle.pl_state.specs.declared.goal.Registration.{Registration}
 use Rattle.pl_events.specs.declared.event.Request.{Request}
 use Rattle.pl_events.specs.declared.event.Request.TheVariants.{Register}
 use Rattle.pl_host_msg.specs.declared.word.HostWord.TheVariants.{Request as Asks, Success}
-use Rattle.pl_members.specs.Field.{json_of, present, text, whole}
+use Rattle.pl_json.specs.Texts.{json_of}
+use Rattle.pl_members.specs.Field.{present, text, whole}
 use Rattle.pl_host_msg.specs.Field.{plain_type, request_number, optional_text, if_passing}
 use Rattle.pl_host_msg.specs.Word.{has_defaults, register_of, word_of, word_of_data}
 

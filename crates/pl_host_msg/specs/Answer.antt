@@ -1,13 +1,10 @@
 -- The text of an answer to a host.
-use Rattle.std.specs.Prelude.{ℕ, List, [], ◌∷◌, Option, Some, None, codes, ⊤}
+use Rattle.std.specs.Prelude.{ℕ, List, [], ◌∷◌, Option, Some, None, codes}
 use Rattle.pl_json.specs.Spelled.{members_of, spelled_fields}
 use Rattle.serde_json.specs.Data.{Data, number, unsigned, string, object, Members, no_members, member}
 use Rattle.serde_json.specs.Written.{compact_text}
-use Rattle.pl_world.specs.declared.frames.TheConstants.{MAX_BODY}
 use Rattle.pl_events.specs.declared.event.Answer.{Answer}
 use Rattle.pl_events.specs.declared.event.Answer.TheVariants.{Registered, Noted, Result, Refused}
-use Rattle.pl_host_msg.specs.declared.answer.MsgOut.{MsgOut}
-use Rattle.pl_host_msg.specs.declared.answer.MsgOut.TheVariants.{TooLong, OutOfMemory}
 
 -- the object with these members, whose names rise
 abbrev pub object_of : List (List ℕ × Data) → Data
@@ -32,8 +29,3 @@ answer_data n (Refused error) = object_of ((codes "error", string error) ∷ (co
 -- the bytes of the answer to request n
 unfoldable pub answer_text : ℕ → Answer → List ℕ
 answer_text n answer = compact_text (answer_data n answer)
-
--- the fact, of the length, where a text was refused for it
-abbrev pub IfTooLong : MsgOut → (ℕ → Type 0) → Type 0
-IfTooLong (TooLong len) P = P len
-IfTooLong OutOfMemory P = ⊤

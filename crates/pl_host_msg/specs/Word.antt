@@ -7,7 +7,8 @@ use Rattle.pl_events.specs.declared.event.Request.{Request}
 use Rattle.pl_events.specs.declared.event.Request.TheVariants.{Register}
 use Rattle.pl_host_msg.specs.declared.word.HostWord.{HostWord}
 use Rattle.pl_host_msg.specs.declared.word.HostWord.TheVariants.{Request as Asks, Success}
-use Rattle.pl_members.specs.Field.{◌>>=◌, json_of, present, text}
+use Rattle.pl_json.specs.Texts.{json_of}
+use Rattle.pl_members.specs.Field.{◌>>=◌, present, text}
 use Rattle.pl_host_msg.specs.Field.{plain_type, request_number, optional_text, is_left_out, is_false, is_empty_list, is_empty_object}
 
 -- ---- the fields of a registration that are not read yet stand at their defaults

@@ -3,49 +3,17 @@ ghost use Rattle.std.specs.Str.{IsUtf8};
 ghost use Rattle.serde_json.specs.Data.{object};
 ghost use Rattle.serde_json.specs.View.{members_view, view};
 ghost use Rattle.pl_events.specs.Halted.{halted};
-ghost use Rattle.pl_host_msg.specs.Answer.{answer_data, answer_text, IfTooLong, ok_data};
+ghost use Rattle.pl_host_msg.specs.Answer.{answer_data, answer_text, ok_data};
+ghost use Rattle.pl_members.specs.Message.{IfTooLong};
 ghost use Rattle.pl_world.specs.declared.frames.TheConstants.{MAX_BODY};
 
 use pl_events::Answer;
 use pl_json::spell_fields;
+use pl_members::{MsgOut, fitting};
 use pl_urn::Urn;
 use pl_value::{Bytes, Fields, OutOfMemory, Text};
-use pl_world::MAX_BODY;
 use serde_json::{Map, Value, json, put};
 use std::alloc::{AllocError, Global};
-use thiserror::Error;
-
-/// Why a message was not written.
-#[derive(Debug, Drop, Error)]
-pub enum MsgOut {
-    /// The body would have this many bytes, more than a frame may have.
-    #[error("a message of {0} bytes")]
-    TooLong(u64),
-    #[error("out of memory")]
-    OutOfMemory,
-}
-
-impl From<OutOfMemory> for MsgOut {
-    ghost use Rattle.std.specs.Prelude.{◌≡◌};
-    ghost use Rattle.pl_host_msg.specs.declared.answer.MsgOut.TheVariants.{OutOfMemory};
-
-    ghost from_gives = { λ _ made. made ≡ OutOfMemory };
-
-    fn from(_error: OutOfMemory) -> MsgOut {
-        MsgOut::OutOfMemory
-    }
-}
-
-impl From<AllocError> for MsgOut {
-    ghost use Rattle.std.specs.Prelude.{◌≡◌};
-    ghost use Rattle.pl_host_msg.specs.declared.answer.MsgOut.TheVariants.{OutOfMemory};
-
-    ghost from_gives = { λ _ made. made ≡ OutOfMemory };
-
-    fn from(_error: AllocError) -> MsgOut {
-        MsgOut::OutOfMemory
-    }
-}
 
 /// The bytes of the answer to request `n`.
 pub fn answer_bytes(alloc: Global, n: u64, answer: &Answer) -> Result<Bytes, MsgOut>
@@ -57,10 +25,7 @@ pub fn answer_bytes(alloc: Global, n: u64, answer: &Answer) -> Result<Bytes, Msg
     ensures over { IfErr result (λ error. IfTooLong error (λ len. MAX_BODY < len)) }
 {
     let bytes = answer_value(alloc, n, answer)?.to_vec(alloc)?;
-    if bytes.len() > MAX_BODY {
-        return Err(MsgOut::TooLong(bytes.len() as u64));
-    }
-    Ok(Bytes::from_vec(bytes))
+    fitting(bytes)
 }
 
 fn answer_value(alloc: Global, n: u64, answer: &Answer) -> Result<Value, OutOfMemory>

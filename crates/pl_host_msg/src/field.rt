@@ -3,11 +3,9 @@ ghost use Rattle.serde_json.specs.View.{view};
 ghost use Rattle.pl_members.specs.Field.{present, text};
 ghost use Rattle.pl_host_msg.specs.Field.{is_empty_list, is_empty_object, is_false, is_left_out, optional_text, plain_type, request_number};
 
-use pl_members::present;
+use pl_members::{GREATEST_NUMBER, present};
 use pl_urn::is_provider_type;
 use serde_json::Value;
-
-const GREATEST_NUMBER: u64 = 1 << 53;
 
 pub(crate) fn text<'a>(message: &'a Value, name: &str) -> Option<&'a str>
     ensures { option_map (λ found. found.now) result ≡ text (present name.now (view message.now)) }

@@ -7,5 +7,6 @@ mod field;
 mod register;
 mod word;
 
-pub use answer::{MsgOut, answer_bytes, halted_bytes};
-pub use word::{HostWord, MsgIn, request_of};
+pub use answer::{answer_bytes, halted_bytes};
+pub use pl_members::{MsgIn, MsgOut};
+pub use word::{HostWord, request_of};

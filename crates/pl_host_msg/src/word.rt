@@ -5,10 +5,9 @@ ghost use Rattle.pl_host_msg.specs.Word.{word_of, word_of_data};
 use crate::field::text;
 use crate::register::register_of;
 use pl_events::Request;
-use pl_members::{Unread, json_of};
+use pl_members::{MsgIn, Unread, json_of};
 use serde_json::Value;
 use std::alloc::Global;
-use thiserror::Error;
 
 /// What a host says.
 #[derive(Debug, Drop)]
@@ -16,16 +15,6 @@ pub enum HostWord {
     Request(Request),
     /// The word of success: nothing is read after it.
     Success,
-}
-
-/// Why no word was read.
-#[derive(Debug, Drop, Error)]
-pub enum MsgIn {
-    /// The bytes are no message of a form that is built.
-    #[error("not a message")]
-    NotAMessage,
-    #[error("out of memory")]
-    OutOfMemory,
 }
 
 /// The word that the body of a frame spells.

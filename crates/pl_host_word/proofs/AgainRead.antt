@@ -6,7 +6,8 @@ use Rattle.pl_urn.specs.Grammar.{IsUrn}
 use Rattle.pl_events.specs.Requests.{is_request_number}
 use Rattle.pl_events.specs.declared.event.Answer.{Answer}
 use Rattle.pl_events.specs.declared.event.Answer.TheVariants.{Result, Refused}
-use Rattle.pl_members.specs.Field.{json_of, pairs, pairs_of, request_number, text_if_there, urn}
+use Rattle.pl_json.specs.Texts.{json_of}
+use Rattle.pl_members.specs.Field.{pairs, pairs_of, request_number, text_if_there, urn}
 use Rattle.pl_members.specs.Readable.{AreReadable}
 use Rattle.pl_members.proofs.HeldData.{Holds, json_of-holds}
 use Rattle.pl_members.proofs.Steps.{Gives, gives, gives_map, gives_next}

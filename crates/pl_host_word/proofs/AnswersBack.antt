@@ -9,7 +9,7 @@ use Rattle.pl_events.specs.declared.event.Answer.{Answer}
 use Rattle.pl_events.specs.declared.event.Answer.TheVariants.{Registered, Noted, Result, Refused}
 use Rattle.pl_members.specs.Field.{Pairs}
 use Rattle.pl_members.specs.Readable.{AreReadable}
-use Rattle.pl_members.proofs.JsonTexts.{json_of_text}
+use Rattle.pl_json.proofs.JsonTexts.{json_of_text}
 use Rattle.pl_members.proofs.Outlines.{IsRead, object-read, string-read, text-read, ticket-read}
 use Rattle.pl_members.proofs.KindsBack.{number_small, numbered, pairs-back, pairs-read-at, urn-back}
 use Rattle.pl_host_msg.specs.Answer.{answer_data, answer_text, id_if_some, ok_data}

@@ -3,7 +3,7 @@ use Rattle.std.proofs.Common.{◌≡◌, ◌≢◌, ℕ, List, [], ◌∷◌, Op
 use Rattle.serde_json.specs.Data.{Data}
 use Rattle.serde_json.specs.Find.{get}
 use Rattle.pl_members.specs.Field.{present, text_if_there, unless_none, unless_null}
-use Rattle.pl_members.specs.Spelled.{text_data}
+use Rattle.pl_json.specs.Objects.{text_data}
 use Rattle.pl_members.proofs.Steps.{Gives, gives_map}
 use Rattle.pl_host_word.specs.Parent.{parent_text}
 

@@ -1,17 +1,13 @@
 -- What is written for a word's value is the word's text, which is the body of a frame unless it is too long.
 use Rattle.std.proofs.Common.{◌≡◌, ◌≤◌, ℕ, false, List, length, Option, Some, None, IfOk, refl, sym, ap, subst, ◌∙◌, arith}
-use Rattle.std.specs.Prelude as told
 use Rattle.serde_json.specs.Data.{Data}
 use Rattle.serde_json.specs.Written.{compact_text, has_float}
-use Rattle.pl_world.specs.Frames.{IsBody}
-use Rattle.pl_world.specs.declared.frames.TheConstants.{MAX_BODY}
 use Rattle.pl_json.proofs.NoFloat.{has_float-spelled_members}
 use Rattle.pl_state.specs.declared.goal.Registration.{Registration}
 use Rattle.pl_events.specs.declared.event.Request.TheVariants as request
 use Rattle.pl_members.specs.Field.{Pairs}
-use Rattle.pl_host_msg.specs.declared.answer.MsgOut.{MsgOut}
 use Rattle.pl_members.proofs.NoFloats.{AreWhole, append-whole, flag-whole, flag_if_there-whole, keyed-whole, object-whole, pairs-whole, text-whole, texts-whole}
-use Rattle.pl_members.specs.Spelled.{Field, object_with}
+use Rattle.pl_json.specs.Objects.{Field, object_with}
 use Rattle.pl_host_word.specs.Spelled.{early_fields, early_read_fields, invoke_data, invoke_fields, late_fields, late_read_fields, outputs_data, read_data, read_fields, register_data, register_fields, told_data, word_data, word_text}
 use Rattle.pl_host_word.specs.declared.word.HostWord.{HostWord}
 use Rattle.pl_host_word.specs.declared.word.HostWord.TheVariants.{Request as Asks, Success, Error}
@@ -137,7 +133,3 @@ word_text-some (Asks (request.Outputs n urn outputs)) = omega arith
 word_text-some (Asks (request.Invoke n token args provider version)) = object-some (invoke_fields n token args provider version)
 word_text-some Success = omega arith
 word_text-some (Error text) = omega arith
-
-pub body_of : (made : told.Result (List ℕ) MsgOut) (text : List ℕ) → 1 ≤ length text → IfOk made (λ bytes. bytes ≡ text) → IfOk made (λ bytes. length bytes ≤ MAX_BODY) → IfOk made IsBody
-body_of (told.Ok bytes) text some is fits = (subst (λ found. 1 ≤ length found) (sym is) some, fits)
-body_of (told.Err error) text some is fits = tt

@@ -12,13 +12,14 @@ use Rattle.pl_events.specs.Requests.{is_formed_registration, is_request_number, 
 use Rattle.pl_events.specs.declared.event.Request.TheVariants as request
 use Rattle.pl_members.specs.Field.{Pairs, flag_if_there, flag_or, keyed_or_none, nonempty_text, pairs_or_none, present, request_number, text, text_if_there, texts_or_none}
 use Rattle.pl_members.specs.Readable.{AreReadable}
-use Rattle.pl_members.proofs.JsonTexts.{json_of_text}
+use Rattle.pl_json.proofs.JsonTexts.{json_of_text}
 use Rattle.pl_members.proofs.Outlines as outlines
 use Rattle.pl_members.proofs.Outlines.{IsRead, boolean-read, string-read}
 use Rattle.pl_members.proofs.KindsBack.{bool-back, flag-back, flag-read, flag_if_there-back, flag_if_there-read, keyed-back, keyed-read, nonempty-back, number-back, number-read, numbered, pairs-back, pairs-read, pairs-read-at, pairs_or_none-back, text-back, text-read, texts-back, texts-read, then_some}
 use Rattle.pl_host_word.specs.Parent.{parent_text}
 use Rattle.pl_host_word.specs.Laws.{IsReadableWord, IsTellable, WordsAreRead, as_reading}
-use Rattle.pl_members.specs.Spelled.{Field, flag_data, keyed_data, list_data, object_with, one_text, pairs_data, text_data}
+use Rattle.pl_json.specs.Objects.{Field, flag_data, object_with, text_data}
+use Rattle.pl_members.specs.Spelled.{keyed_data, list_data, one_text, pairs_data}
 use Rattle.pl_host_word.specs.Spelled.{call_data, early_fields, early_read_fields, invoke_data, invoke_fields, late_fields, late_read_fields, outputs_data, outputs_fields, read_data, read_fields, register_data, register_fields, told_data, word_data, word_text}
 use Rattle.pl_host_word.specs.Word.{extras_of, flags_of, invoke_of, is_formed_word, links_of, names_of, outputs_of, read_of, register_of, word_in, word_read}
 use Rattle.pl_host_word.specs.declared.calls.HostCall.TheVariants as called
@@ -29,7 +30,8 @@ use Rattle.pl_host_word.specs.declared.resource.Names.{Names}
 use Rattle.pl_host_word.specs.declared.word.HostWord.{HostWord}
 use Rattle.pl_host_word.specs.declared.word.HostWord.TheVariants.{Request as Asks, Success, Error}
 use Rattle.pl_host_word.proofs.Parents.{parent-back}
-use Rattle.pl_members.proofs.Shapes.{FieldsAreRead, get-object_with, object_with-read, over_none}
+use Rattle.pl_json.proofs.Objects.{over_none}
+use Rattle.pl_members.proofs.Shapes.{FieldsAreRead, get-object_with, object_with-read}
 
 -- ---- the parts of a registration
 

@@ -7,7 +7,8 @@ use Rattle.pl_value.specs.Keys.{are_rising, keys_of}
 use Rattle.pl_lemmas.specs.Words.{has_none}
 use Rattle.pl_events.specs.Requests.{is_formed_request, is_request_number}
 use Rattle.pl_events.specs.declared.event.Request.{Request}
-use Rattle.pl_members.specs.Field.{Keyed, json_of, keyed_or_none, nonempty_text, pairs, pairs_or_none, present, request_number, text, text_if_there, texts_or_none}
+use Rattle.pl_json.specs.Texts.{json_of}
+use Rattle.pl_members.specs.Field.{Keyed, keyed_or_none, nonempty_text, pairs, pairs_or_none, present, request_number, text, text_if_there, texts_or_none}
 use Rattle.pl_members.specs.Readable.{AreReadable}
 use Rattle.pl_members.proofs.HeldData.{Holds, json_of-holds}
 use Rattle.pl_members.proofs.Steps.{Gives, gives, gives_map, gives_next}

@@ -4,7 +4,8 @@ use Rattle.serde_json.specs.Data.{Data}
 use Rattle.serde_json.specs.Find.{as_object, as_str, get}
 use Rattle.pl_events.specs.declared.event.Answer.{Answer}
 use Rattle.pl_events.specs.declared.event.Answer.TheVariants.{Registered, Noted, Result, Refused}
-use Rattle.pl_members.specs.Field.{◌>>=◌, json_of, pairs, pairs_of, request_number, text_if_there, urn}
+use Rattle.pl_json.specs.Texts.{json_of}
+use Rattle.pl_members.specs.Field.{◌>>=◌, pairs, pairs_of, request_number, text_if_there, urn}
 
 -- the answer to a registration or a reading
 unfoldable pub registered_of : Data → Option Answer

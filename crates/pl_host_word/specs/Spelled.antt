@@ -7,7 +7,8 @@ use Rattle.pl_state.specs.declared.goal.Registration.{Registration}
 use Rattle.pl_events.specs.declared.event.Request.{Request}
 use Rattle.pl_events.specs.declared.event.Request.TheVariants as request
 use Rattle.pl_members.specs.Field.{Pairs}
-use Rattle.pl_members.specs.Spelled.{Field, object_with, one_text, number_data, flag_data, text_data, list_data, pairs_data, keyed_data}
+use Rattle.pl_json.specs.Objects.{Field, object_with, flag_data, text_data}
+use Rattle.pl_members.specs.Spelled.{one_text, number_data, list_data, pairs_data, keyed_data}
 use Rattle.pl_host_word.specs.Words.{call_word}
 use Rattle.pl_host_word.specs.declared.calls.HostCall.{HostCall}
 use Rattle.pl_host_word.specs.declared.calls.HostCall.TheVariants as called

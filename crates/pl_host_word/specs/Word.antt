@@ -6,7 +6,8 @@ use Rattle.pl_state.specs.declared.goal.Registration.{Registration}
 use Rattle.pl_events.specs.Requests.{is_formed_request}
 use Rattle.pl_events.specs.declared.event.Request.{Request}
 use Rattle.pl_events.specs.declared.event.Request.TheVariants as request
-use Rattle.pl_members.specs.Field.{◌>>=◌, flag_if_there, flag_or, json_of, keyed_or_none, nonempty_text, pairs, pairs_or_none, present, request_number, text, text_if_there, texts_or_none}
+use Rattle.pl_json.specs.Texts.{json_of}
+use Rattle.pl_members.specs.Field.{◌>>=◌, flag_if_there, flag_or, keyed_or_none, nonempty_text, pairs, pairs_or_none, present, request_number, text, text_if_there, texts_or_none}
 use Rattle.pl_host_word.specs.Parent.{parent_text}
 use Rattle.pl_host_word.specs.Words.{call_named}
 use Rattle.pl_host_word.specs.declared.calls.HostCall.{HostCall}

@@ -3,8 +3,7 @@ ghost use Rattle.serde_json.specs.View.{view};
 ghost use Rattle.pl_host_word.specs.Answer.{answer_by, answer_in, answer_read, noted_of, refused_of, registered_of, success_of};
 
 use pl_events::Answer;
-use pl_host_msg::MsgIn;
-use pl_members::{Unread, json_of, pairs, pairs_of, request_number, text_if_there, urn};
+use pl_members::{MsgIn, Unread, json_of, pairs, pairs_of, request_number, text_if_there, urn};
 use pl_value::Text;
 use serde_json::Value;
 use std::alloc::Global;

@@ -14,6 +14,6 @@ mod wording;
 pub use answered::answer_of;
 pub use laws::{messages_are_read, messages_are_read_again, words_fit};
 pub use pl_events::{Answer, Request};
-pub use pl_host_msg::{MsgIn, MsgOut};
+pub use pl_members::{MsgIn, MsgOut};
 pub use word::{HostWord, word_of};
 pub use wording::word_bytes;

@@ -1,6 +1,7 @@
 ghost use Rattle.std.specs.Prelude.{◌≡◌, OnOk, codes};
 ghost use Rattle.serde_json.specs.View.{members_view};
-ghost use Rattle.pl_members.specs.Spelled.{number_data, put_if_some};
+ghost use Rattle.pl_json.specs.Objects.{put_if_some};
+ghost use Rattle.pl_members.specs.Spelled.{number_data};
 ghost use Rattle.pl_host_word.specs.Spelled.{call_data};
 
 use crate::calls::{HostCall, call_word};

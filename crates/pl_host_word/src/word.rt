@@ -6,10 +6,9 @@ use crate::calls::{HostCall, call_named};
 use crate::options::{Extras, Flags, extras_of, flags_of};
 use crate::resource::{Links, Names, links_of, names_of};
 use pl_events::Request;
-use pl_host_msg::MsgIn;
 use pl_members::{
-    Unread, json_of, nonempty_text, pairs, pairs_or_none, present, request_number, str_in, text,
-    text_if_there,
+    MsgIn, Unread, json_of, nonempty_text, pairs, pairs_or_none, present, request_number, str_in,
+    text, text_if_there,
 };
 use pl_state::Registration;
 use pl_value::{Text, Texts};

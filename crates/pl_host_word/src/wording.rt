@@ -3,18 +3,17 @@ ghost use Rattle.std.specs.Str.{IsUtf8};
 ghost use Rattle.serde_json.specs.View.{members_view, view};
 ghost use Rattle.pl_world.specs.Frames.{IsBody};
 ghost use Rattle.pl_world.specs.declared.frames.TheConstants.{MAX_BODY};
-ghost use Rattle.pl_host_msg.specs.Answer.{IfTooLong};
+ghost use Rattle.pl_members.specs.Message.{IfTooLong};
 ghost use Rattle.pl_host_word.specs.Spelled.{done_data, early_fields, early_read_fields, failed_data, invoke_data, late_fields, late_read_fields, outputs_data, read_data, register_data, request_data, told_data, word_data, word_text};
-ghost use Rattle.pl_members.specs.Spelled.{with_fields};
+ghost use Rattle.pl_json.specs.Objects.{with_fields};
 
 use crate::calls::HostCall;
 use crate::members::{put_call, put_number};
 use crate::word::HostWord;
 use pl_events::Request;
-use pl_host_msg::MsgOut;
 use pl_members::{
-    Members, put_bool, put_fields, put_flag, put_flag_if_some, put_keyed, put_pairs, put_text,
-    put_text_if_some, put_texts,
+    Members, MsgOut, fitting, put_bool, put_fields, put_flag, put_flag_if_some, put_keyed,
+    put_pairs, put_text, put_text_if_some, put_texts,
 };
 use pl_state::Registration;
 use pl_value::{Bytes, Fields, OutOfMemory, Text};
@@ -33,19 +32,6 @@ pub fn word_bytes(alloc: Global, word: &HostWord) -> Result<Bytes, MsgOut>
 {
     let bytes = word_value(alloc, word)?.to_vec(alloc)?;
     fitting(bytes)
-}
-
-/// The bytes as a message, unless they are too many for the body of a frame.
-fn fitting(bytes: Vec<u8>) -> Result<Bytes, MsgOut>
-    ensures bytes { IfOk result (λ made. made ≡ bytes.items) }
-    ensures fits { IfOk result (λ made. length made ≤ MAX_BODY) }
-    ensures too_long { IfErr result (λ error. IfTooLong error (λ len. len ≡ length bytes.items)) }
-    ensures over { IfErr result (λ error. IfTooLong error (λ len. MAX_BODY < len)) }
-{
-    if bytes.len() > MAX_BODY {
-        return Err(MsgOut::TooLong(bytes.len() as u64));
-    }
-    Ok(Bytes::from_vec(bytes))
 }
 
 fn word_value(alloc: Global, word: &HostWord) -> Result<Value, OutOfMemory>

@@ -11,3 +11,5 @@ pub mod SpellingShape
 pub mod TextTells
 pub mod ValueTells
 pub mod Wholes
+pub mod JsonTexts
+pub mod Objects

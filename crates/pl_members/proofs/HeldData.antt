@@ -15,7 +15,7 @@ use Rattle.pl_value.specs.Keys.{is_below, is_less}
 use Rattle.pl_json.proofs.ReadBack.{AllAbove}
 use Rattle.pl_json.specs.Fits.{fits}
 use Rattle.pl_json.proofs.Above.{above-below, above-put}
-use Rattle.pl_members.specs.Field.{json_of}
+use Rattle.pl_json.specs.Texts.{json_of}
 use Rattle.pl_members.proofs.Steps.{Gives, gives, gives_map, gives_next}
 
 -- a number that a text spells

@@ -2,13 +2,10 @@
 use Rattle.std.proofs.Common.{◌≡◌, ℕ, ◌<◌, ◌+◌, length, map, take, get_or, List, [], ◌∷◌, ◌++◌, refl, sym, ap, ◌∙◌}
 use Rattle.std.proofs.lemmas.List.{take_more, map-append}
 use Rattle.serde_json.specs.Data.{Members, put}
-use Rattle.pl_members.specs.Spelled.{Field, keyed_field, put_if_some, texts_data, with_fields}
+use Rattle.pl_json.specs.Objects.{Field, put_if_some, texts_data, with_fields}
+use Rattle.pl_members.specs.Spelled.{keyed_field}
 use Rattle.pl_members.specs.Field.{Keyed}
-
--- a field more, at the end
-with_fields-push : (fields : List Field) (field : Field) (ms : Members) → with_fields (fields ++ field ∷ []) ms ≡ put_if_some field.0 field.1 (with_fields fields ms)
-with_fields-push [] field ms = refl
-with_fields-push (first ∷ more) field ms = with_fields-push more field (put_if_some first.0 first.1 ms)
+use Rattle.pl_json.proofs.Objects.{with_fields-push}
 
 -- the next list
 pub with_keyed-next : (pairs : Keyed) (place : ℕ) (pair : List ℕ × List (List ℕ)) (ms : Members) → place < length pairs → pair ≡ get_or pairs place pair

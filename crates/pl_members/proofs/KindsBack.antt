@@ -14,7 +14,8 @@ use Rattle.pl_events.specs.Replies.{are_shallow}
 use Rattle.pl_events.specs.Requests.{is_request_number}
 use Rattle.pl_members.specs.Field.{Keyed, Pairs, before, each_item, each_member, flag_if_there, flag_or, if_number, if_urn, keyed_of, keyed_or_none, nonempty_text, pairs_of, pairs_or_none, present, request_number, text_if_there, texts_of, texts_or_none, unless_none, unless_null}
 use Rattle.pl_members.specs.Readable.{AreReadable}
-use Rattle.pl_members.specs.Spelled.{flag_data, keyed_data, keyed_field, list_data, number_data, object_with, pairs_data, text_data, texts_data, unless_empty}
+use Rattle.pl_json.specs.Objects.{flag_data, object_with, text_data, texts_data, unless_empty}
+use Rattle.pl_members.specs.Spelled.{keyed_data, keyed_field, list_data, number_data, pairs_data}
 use Rattle.pl_members.proofs.Outlines.{IsRead, array-read, boolean-read, each_text-read, fields-read, string-read, ticket-read}
 use Rattle.pl_members.proofs.Shapes.{FieldIsRead, FieldsAreRead, object_with-read, told_of, with_fields-told}
 

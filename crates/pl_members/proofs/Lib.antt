@@ -1,7 +1,7 @@
+pub mod Bodies
 pub mod HeldData
 pub mod InPlace
 pub mod Items
-pub mod JsonTexts
 pub mod KindsBack
 pub mod KindsGood
 pub mod NoFloats

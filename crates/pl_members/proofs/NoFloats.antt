@@ -8,24 +8,9 @@ use Rattle.serde_json.specs.View.{items_of}
 use Rattle.serde_json.specs.Written.{has_float, items_have_float, members_have_float}
 use Rattle.pl_json.proofs.NoFloat.{has_float-spelled_members}
 use Rattle.pl_members.specs.Field.{Keyed, Pairs}
-use Rattle.pl_members.specs.Spelled.{Field, flag_data, keyed_data, keyed_field, list_data, object_with, pairs_data, put_if_some, text_data, unless_empty, with_fields}
-
-either_whole : (o : Ordering) (a b c : Members) → members_have_float a ≡ false → members_have_float b ≡ false → members_have_float c ≡ false → members_have_float (match_ordering o a b c) ≡ false
-either_whole Less a b c x y z = x
-either_whole Equal a b c x y z = y
-either_whole Greater a b c x y z = z
-
-or_from : (a b : Bool) → a ≡ false → b ≡ false → (a || b) ≡ false
-or_from a b x y = rw (x, y) refl
-
-put-whole : (name : List ℕ) (value : Data) (ms : Members) → has_float value ≡ false → members_have_float ms ≡ false → members_have_float (put name value ms) ≡ false
-put-whole name value no_members none all = or_from _ _ none refl
-put-whole name value (member first here more) none all =
-    let parts = or_parts (has_float here) (members_have_float more) all in
-    either_whole (slice_cmp nat_cmp name first) _ _ _
-    (or_from _ _ none all)
-    (or_from _ _ none parts.1)
-    (or_from _ _ parts.0 (put-whole name value more none parts.1))
+use Rattle.pl_json.specs.Objects.{Field, flag_data, object_with, put_if_some, text_data, unless_empty, with_fields}
+use Rattle.pl_members.specs.Spelled.{keyed_data, keyed_field, list_data, pairs_data}
+use Rattle.pl_json.proofs.Objects.{items-whole, put-whole}
 
 abbrev pub IsWhole : Option Data → Type 0
 IsWhole None = Unit {0}
@@ -65,10 +50,6 @@ text-whole (Some text) = refl
 list-whole : {X : Type 0} (list : List X) (value : Data) → has_float value ≡ false → IsWhole (unless_empty list value)
 list-whole [] value none = tt
 list-whole (first ∷ more) value none = none
-
-pub items-whole : (texts : List (List ℕ)) → items_have_float (items_of (map string texts)) ≡ false
-items-whole [] = refl
-items-whole (text ∷ more) = items-whole more
 
 pub texts-whole : (texts : List (List ℕ)) → IsWhole (list_data texts)
 texts-whole texts = list-whole texts _ (items-whole texts)

@@ -11,7 +11,8 @@ use Rattle.pl_value.proofs.Rising.{reversed, less_from}
 use Rattle.pl_value.specs.Keys.{are_rising, is_below, keys_of}
 use Rattle.pl_json.specs.Spelled.{members_of}
 use Rattle.pl_members.proofs.Outlines.{EachMemberRead, IsRead, list_of, object-read}
-use Rattle.pl_members.specs.Spelled.{Field, object_with, put_if_some, with_fields}
+use Rattle.pl_json.specs.Objects.{Field, object_with, put_if_some, with_fields}
+use Rattle.pl_json.proofs.Objects.{over, over_none}
 
 -- a member, where something is written
 abbrev pub told_then : List ℕ → Option Data → List (List ℕ × Data) → List (List ℕ × Data)
@@ -77,15 +78,6 @@ rising_told (field ∷ more) rising =
     rising_by field.1 field.0 (told_of more) (above_told field.0 more parts.0) (rising_told more parts.1)
 
 -- ---- what stands under a name
-
--- what stands here, or else what stands later
-abbrev pub over : Option Data → Option Data → Option Data
-over None later = later
-over (Some value) later = Some value
-
-pub over_none : (value : Option Data) → over value None ≡ value
-over_none None = refl
-over_none (Some value) = refl
 
 -- what is written under a name
 abbrev pub under : List ℕ → List Field → Option Data

@@ -23,10 +23,6 @@ Pairs = List (List ℕ × Value)
 abbrev pub Keyed : Type 0
 Keyed = List (List ℕ × List (List ℕ))
 
--- the JSON value that the bytes spell
-abbrev pub json_of : List ℕ → Option Data
-json_of bytes = if is_utf8 bytes then read bytes else None
-
 -- the value, unless it is null
 abbrev pub unless_null : Data → Option Data
 unless_null null = None

@@ -1,3 +1,4 @@
 pub mod Field
+pub mod Message
 pub mod Readable
 pub mod Spelled

@@ -1,6 +1,7 @@
 ghost use Rattle.std.specs.Prelude.{◌≡◌, IfOk, Err, None, Some, option_map};
 ghost use Rattle.serde_json.specs.Find.{get};
 ghost use Rattle.serde_json.specs.View.{view};
+ghost use Rattle.pl_json.specs.Texts as texts;
 ghost use Rattle.pl_members.specs.Field as spec;
 
 use crate::fault::Unread;
@@ -9,12 +10,13 @@ use pl_value::Text;
 use serde_json::Value;
 use std::alloc::Global;
 
-const GREATEST_NUMBER: u64 = 1 << 53;
+/// The greatest number that a request may have.
+pub const GREATEST_NUMBER: u64 = 1 << 53;
 
 /// The JSON value that the bytes spell.
 pub fn json_of(alloc: Global, bytes: &[u8]) -> Result<Value, Unread>
-    ensures value { IfOk result (λ value. spec.json_of bytes.now ≡ Some (view value)) }
-    ensures wrong_form { result ≡ Err Unread.WrongForm → spec.json_of bytes.now ≡ None }
+    ensures value { IfOk result (λ value. texts.json_of bytes.now ≡ Some (view value)) }
+    ensures wrong_form { result ≡ Err Unread.WrongForm → texts.json_of bytes.now ≡ None }
 {
     match Value::from_slice(alloc, bytes) {
         Ok(message) => Ok(message),

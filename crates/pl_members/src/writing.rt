@@ -2,7 +2,8 @@ ghost use Rattle.std.specs.Prelude.{◌≡◌, IfOk, OnOk, map, option_map};
 ghost use Rattle.serde_json.specs.Data.{boolean, no_members, put, string};
 ghost use Rattle.serde_json.specs.View.{members_view, view};
 ghost use Rattle.pl_json.specs.Spelled.{spelled_fields};
-ghost use Rattle.pl_members.specs.Spelled.{flag_data, keyed_data, keyed_field, list_data, pairs_data, put_if_some, text_data, texts_data, with_fields};
+ghost use Rattle.pl_json.specs.Objects.{flag_data, put_if_some, text_data, texts_data, with_fields};
+ghost use Rattle.pl_members.specs.Spelled.{keyed_data, keyed_field, list_data, pairs_data};
 
 use pl_json::spell_fields;
 use pl_state::KeyedTexts;

@@ -2,7 +2,8 @@
 use Rattle.std.specs.Prelude.{ℕ, List, [], codes, Bool, true, false, ◌&&◌, if◌then◌else◌, Option, None, Some, option_and_then, is_some}
 use Rattle.serde_json.specs.Data.{Data, object, no_members}
 use Rattle.serde_json.specs.Find.{get, as_array, as_object}
-use Rattle.pl_members.specs.Field.{◌>>=◌, Pairs, each_item, flag_if_there, flag_or, json_of, pairs_if_there, pairs_or_none, present, text, text_if_there, texts_or_none}
+use Rattle.pl_json.specs.Texts.{json_of}
+use Rattle.pl_members.specs.Field.{◌>>=◌, Pairs, each_item, flag_if_there, flag_or, pairs_if_there, pairs_or_none, present, text, text_if_there, texts_or_none}
 use Rattle.pl_program_file.specs.Names.{may_all_follow, may_be_told}
 use Rattle.pl_program_file.specs.declared.program.Links.{Links}
 use Rattle.pl_program_file.specs.declared.program.Program.{Program}

@@ -8,7 +8,8 @@ use Rattle.pl_events.specs.declared.operation.Call.{Call}
 use Rattle.pl_events.specs.declared.operation.Call.TheVariants as call
 use Rattle.pl_events.specs.declared.reply.Reply.{Reply}
 use Rattle.pl_events.specs.declared.reply.Reply.TheVariants.{Checked, CheckFailed, Changed, Result as Resulted, Error}
-use Rattle.pl_members.specs.Field.{Pairs, flag_or, json_of, nonempty_text, pairs, pairs_if_there, present, some_texts, text, texts_or_none, whole}
+use Rattle.pl_json.specs.Texts.{json_of}
+use Rattle.pl_members.specs.Field.{Pairs, flag_or, nonempty_text, pairs, pairs_if_there, present, some_texts, text, texts_or_none, whole}
 use Rattle.pl_provider_msg.specs.Reasons.{some_reasons}
 use Rattle.pl_provider_msg.specs.Laws.{RepliesFit}
 use Rattle.pl_provider_msg.specs.Response.{changed_partly_of, compared_of, error_of, failures_of, found_of, gone_if, gone_of, made_of, made_partly_of, partial_of, reply_by, reply_called, reply_in, reply_read, success_of}

@@ -9,7 +9,8 @@ use Rattle.pl_events.specs.declared.operation.Call.{Call}
 use Rattle.pl_events.specs.declared.operation.Call.TheVariants as call
 use Rattle.pl_events.specs.declared.reply.Reply.{Reply}
 use Rattle.pl_events.specs.declared.reply.Reply.TheVariants.{Checked, CheckFailed, Changed, Result as Resulted, Error}
-use Rattle.pl_members.specs.Field.{Pairs, flag_or, json_of, nonempty_text, pairs, pairs_if_there, present, some_texts, text, texts_or_none, urn, whole}
+use Rattle.pl_json.specs.Texts.{json_of}
+use Rattle.pl_members.specs.Field.{Pairs, flag_or, nonempty_text, pairs, pairs_if_there, present, some_texts, text, texts_or_none, urn, whole}
 use Rattle.pl_provider_msg.specs.Reasons.{some_reasons}
 use Rattle.pl_members.specs.Readable.{AreReadable}
 use Rattle.pl_provider_msg.specs.Laws.{IsReadableAsk, IsReadableReply, RepliesAreReadAgain, RequestsAreReadAgain}

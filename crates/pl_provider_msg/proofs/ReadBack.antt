@@ -11,7 +11,7 @@ use Rattle.pl_members.specs.Field.{Pairs}
 use Rattle.pl_members.specs.Readable.{AreReadable}
 use Rattle.pl_provider_msg.specs.Laws.{IsReadableAsk, RequestsAreRead}
 use Rattle.pl_provider_msg.specs.Request.{ask_data, ask_in, ask_read, ask_text, change_data, changing_of, check_data, checking_of, configure_data, create_data, create_of, invoke_data, invoke_of, thing_data, thing_of}
-use Rattle.pl_members.proofs.JsonTexts.{json_of_text}
+use Rattle.pl_json.proofs.JsonTexts.{json_of_text}
 use Rattle.pl_members.proofs.Outlines.{IsRead, object-read, string-read, text-read, ticket-read}
 use Rattle.pl_members.proofs.KindsBack.{pairs-back, pairs-read-at, urn-back}
 

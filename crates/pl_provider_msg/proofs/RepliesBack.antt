@@ -20,10 +20,10 @@ use Rattle.pl_members.specs.Readable.{AreReadable}
 use Rattle.pl_provider_msg.specs.Laws.{IsReadableReply, RepliesAreRead}
 use Rattle.pl_provider_msg.specs.Request.{object_of}
 use Rattle.pl_provider_msg.specs.Response.{changed_partly_of, compared_of, found_of, made_of, made_partly_of, ok_data, partial_data, reason_data, reply_called, reply_data, reply_in, reply_read, reply_text}
-use Rattle.pl_members.specs.Spelled.{texts_data}
+use Rattle.pl_json.specs.Objects.{texts_data}
 use Rattle.pl_provider_msg.specs.Words.{changes_named, changes_word}
 use Rattle.pl_members.proofs.KindsBack.{each_text-back, pairs-back, pairs-read-at, some-back}
-use Rattle.pl_members.proofs.JsonTexts.{json_of_text}
+use Rattle.pl_json.proofs.JsonTexts.{json_of_text}
 use Rattle.pl_members.proofs.Outlines.{EachRead, IsRead, array-read, boolean-read, each_text-read, object-read, string-read, text-read, ticket-read}
 
 -- ---- lists

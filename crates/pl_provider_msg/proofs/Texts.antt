@@ -1,11 +1,8 @@
 -- What is written for a message's value is the message's text.
 use Rattle.std.proofs.Common.{◌≡◌, ◌≤◌, ℕ, List, [], ◌∷◌, length, map, Option, Some, None, IfOk, false, refl, sym, ap, subst, ◌∙◌, arith}
-use Rattle.std.specs.Prelude as told
 use Rattle.serde_json.specs.Data.{Data}
 use Rattle.serde_json.specs.View.{items_of}
 use Rattle.serde_json.specs.Written.{compact_text, has_float, items_have_float}
-use Rattle.pl_world.specs.Frames.{IsBody}
-use Rattle.pl_world.specs.declared.frames.TheConstants.{MAX_BODY}
 use Rattle.pl_json.proofs.NoFloat.{has_float-spelled_members}
 use Rattle.pl_events.specs.declared.operation.Ask.{Ask}
 use Rattle.pl_events.specs.declared.operation.Ask.TheVariants as ask
@@ -13,8 +10,7 @@ use Rattle.pl_events.specs.declared.operation.Call.{Call}
 use Rattle.pl_events.specs.declared.operation.Call.TheVariants as call
 use Rattle.pl_events.specs.declared.reply.Reply.{Reply}
 use Rattle.pl_events.specs.declared.reply.Reply.TheVariants.{Checked, CheckFailed, Configured, Diffed, Made, MadePartly, Changed, ChangedPartly, Removed, Found, Gone, Result, Error}
-use Rattle.pl_provider_msg.specs.declared.failure.MsgOut.{MsgOut}
-use Rattle.pl_members.proofs.NoFloats.{items-whole}
+use Rattle.pl_json.proofs.Objects.{items-whole}
 use Rattle.pl_members.specs.Field.{Pairs}
 use Rattle.pl_provider_msg.specs.Request.{ask_data, ask_text, change_data, check_data, thing_data}
 use Rattle.pl_provider_msg.specs.Response.{reason_data, reply_data, reply_text}
@@ -102,7 +98,3 @@ reply_text-some ticket (Found id inputs outputs) = omega arith
 reply_text-some ticket Gone = omega arith
 reply_text-some ticket (Result fields) = omega arith
 reply_text-some ticket (Error text) = omega arith
-
-pub body_of : (made : told.Result (List ℕ) MsgOut) (text : List ℕ) → 1 ≤ length text → IfOk made (λ bytes. bytes ≡ text) → IfOk made (λ bytes. length bytes ≤ MAX_BODY) → IfOk made IsBody
-body_of (told.Ok bytes) text some is fits = (subst (λ found. 1 ≤ length found) (sym is) some, fits)
-body_of (told.Err error) text some is fits = tt

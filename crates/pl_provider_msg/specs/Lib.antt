@@ -1,5 +1,4 @@
 pub mod Laws
-pub mod Out
 pub mod Parts
 pub mod Reasons
 pub mod Request

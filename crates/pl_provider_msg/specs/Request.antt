@@ -11,7 +11,8 @@ use Rattle.pl_events.specs.declared.operation.Call.TheVariants as call
 use Rattle.pl_provider_msg.specs.declared.asked.Changing.{Changing}
 use Rattle.pl_provider_msg.specs.declared.asked.Checking.{Checking}
 use Rattle.pl_provider_msg.specs.declared.asked.Thing.{Thing}
-use Rattle.pl_members.specs.Field.{◌>>=◌, Pairs, json_of, pairs, pairs_if_there, text, urn, whole}
+use Rattle.pl_json.specs.Texts.{json_of}
+use Rattle.pl_members.specs.Field.{◌>>=◌, Pairs, pairs, pairs_if_there, text, urn, whole}
 use Rattle.pl_provider_msg.specs.Words.{call_named, call_word}
 
 -- ---- written

@@ -10,7 +10,8 @@ use Rattle.pl_events.specs.declared.operation.Call.{Call}
 use Rattle.pl_events.specs.declared.operation.Call.TheVariants as call
 use Rattle.pl_events.specs.declared.reply.Reply.{Reply}
 use Rattle.pl_events.specs.declared.reply.Reply.TheVariants.{Checked, CheckFailed, Configured, Diffed as Compared, Made, MadePartly, Changed, ChangedPartly, Removed, Found, Gone, Result, Error}
-use Rattle.pl_members.specs.Field.{◌>>=◌, Pairs, flag_or, json_of, nonempty_text, pairs, pairs_if_there, present, some_texts, text, texts_or_none, whole}
+use Rattle.pl_json.specs.Texts.{json_of}
+use Rattle.pl_members.specs.Field.{◌>>=◌, Pairs, flag_or, nonempty_text, pairs, pairs_if_there, present, some_texts, text, texts_or_none, whole}
 use Rattle.pl_provider_msg.specs.Reasons.{some_reasons}
 use Rattle.pl_provider_msg.specs.Request.{object_of}
 use Rattle.pl_provider_msg.specs.Words.{changes_named, changes_word}

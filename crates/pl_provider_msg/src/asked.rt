@@ -2,10 +2,9 @@ ghost use Rattle.std.specs.Prelude.{◌≡◌, IfOk, Err, None, Some};
 ghost use Rattle.serde_json.specs.View.{view};
 ghost use Rattle.pl_provider_msg.specs.Request.{ask_called, ask_in, ask_read, changing_of, checking_of, configure_of, create_of, invoke_of, thing_of};
 
-use crate::failure::MsgIn;
 use crate::words::call_named;
 use pl_events::{Ask, Call};
-use pl_members::{Unread, json_of, pairs, pairs_if_there, str_in, text, urn, whole};
+use pl_members::{MsgIn, Unread, json_of, pairs, pairs_if_there, str_in, text, urn, whole};
 use pl_urn::Urn;
 use pl_value::{Fields, Text};
 use serde_json::Value;

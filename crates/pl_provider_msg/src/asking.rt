@@ -3,15 +3,13 @@ ghost use Rattle.std.specs.Str.{IsUtf8};
 ghost use Rattle.serde_json.specs.View.{members_view, view};
 ghost use Rattle.pl_world.specs.Frames.{IsBody};
 ghost use Rattle.pl_world.specs.declared.frames.TheConstants.{MAX_BODY};
-ghost use Rattle.pl_provider_msg.specs.Out.{IfTooLong};
+ghost use Rattle.pl_members.specs.Message.{IfTooLong};
 ghost use Rattle.pl_provider_msg.specs.Parts.{begun, with_names, with_objects};
 ghost use Rattle.pl_provider_msg.specs.Request.{ask_data, ask_text, asked_call};
 
-use crate::failure::MsgOut;
-use crate::members::fitting;
 use crate::words::call_word;
 use pl_events::{Ask, Call};
-use pl_members::{Members, put_fields, put_text};
+use pl_members::{Members, MsgOut, fitting, put_fields, put_text};
 use pl_value::{Bytes, OutOfMemory};
 use serde_json::{Map, Value, put};
 use std::alloc::Global;

@@ -3,7 +3,6 @@
 
 mod asked;
 mod asking;
-mod failure;
 mod laws;
 mod members;
 mod reasons;
@@ -13,8 +12,8 @@ mod words;
 
 pub use asked::ask_of;
 pub use asking::request_bytes;
-pub use failure::{MsgIn, MsgOut};
 pub use laws::{messages_are_read, messages_are_read_again, replies_fit};
 pub use pl_events::{Ask, Call, Reply};
+pub use pl_members::{MsgIn, MsgOut};
 pub use replied::reply_of;
 pub use replying::reply_bytes;

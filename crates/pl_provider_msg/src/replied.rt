@@ -3,13 +3,12 @@ ghost use Rattle.serde_json.specs.View.{view};
 ghost use Rattle.pl_events.specs.Replies.{reply_fits};
 ghost use Rattle.pl_provider_msg.specs.Response.{changed_of, changed_partly_of, checked_of, compared_of, done_of, error_of, failures_of, found_of, gone_of, made_of, made_partly_of, partial_of, reply_called, reply_in, reply_read, result_of, success_of};
 
-use crate::failure::MsgIn;
 use crate::reasons::some_reasons;
 use crate::words::changes_named;
 use pl_events::{Call, Reply};
 use pl_members::{
-    Unread, flag_or, json_of, nonempty_text, pairs, pairs_if_there, present, some_texts, str_in,
-    texts_or_none, whole,
+    MsgIn, Unread, flag_or, json_of, nonempty_text, pairs, pairs_if_there, present, some_texts,
+    str_in, texts_or_none, whole,
 };
 use pl_state::Diffed;
 use pl_value::{OutOfMemory, Text};

@@ -14,7 +14,8 @@ use Rattle.pl_events.specs.declared.operation.Ask.{Ask}
 use Rattle.pl_events.specs.declared.operation.Ask.TheVariants as ask
 use Rattle.pl_events.specs.declared.reply.Reply.{Reply}
 use Rattle.pl_events.specs.declared.reply.Reply.TheVariants.{Checked, CheckFailed, Configured, Diffed as Compared, Made, Changed, Removed, Found, Gone, Result, Error}
-use Rattle.pl_members.specs.Field.{Pairs, json_of, pairs_of}
+use Rattle.pl_json.specs.Texts.{json_of}
+use Rattle.pl_members.specs.Field.{Pairs, pairs_of}
 use Rattle.pl_toy.specs.declared.create.Place.{Place}
 use Rattle.pl_toy.specs.declared.create.Place.TheVariants.{Under, LongName, Full}
 use Rattle.pl_toy.specs.Things.{Things, with_thing, without_thing, Became, IsKeptOrBecame}

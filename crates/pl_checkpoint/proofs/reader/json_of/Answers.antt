@@ -1,7 +1,7 @@
 use Rattle.std.proofs.Common.{sym, ap, ◌∙◌}
 use Rattle.std.proofs.lemmas.Bool.{false≢true}
 use Rattle.serde_json.specs.Errors.{IsMemory}
-use Rattle.pl_checkpoint.proofs.JsonText.{json_of_text, json_of_no_text}
+use Rattle.pl_json.proofs.JsonTexts.{json_of_text, json_of_no_text}
 use Rattle.pl_checkpoint_text.specs.Read.{data_reading}
 use Rattle.pl_checkpoint.proofs.reader.json_of.Goals as goal
 

@@ -3,7 +3,7 @@ use Rattle.serde_json.proofs.Views.{view-Array}
 use Rattle.serde_json.specs.Data.{array, no_members, string}
 use Rattle.serde_json.specs.View.{items_of, view}
 use Rattle.serde_json.specs.declared.value.Value.{Array}
-use Rattle.pl_checkpoint_text.specs.Spelled.{texts_data}
+use Rattle.pl_json.specs.Objects.{texts_data}
 use Rattle.pl_checkpoint_text.proofs.Fields.{with_properties-next}
 use Rattle.pl_checkpoint_text.proofs.members.spell_properties.Goals as goal
 

@@ -1,7 +1,8 @@
 use Rattle.std.proofs.Common.{codes, ap, ap₂, ◌∙◌}
 use Rattle.serde_json.proofs.Views.{view-Object}
 use Rattle.serde_json.specs.Data.{object, put, string}
-use Rattle.pl_checkpoint_text.specs.Spelled.{put_if_some, entry_fields, entry_data}
+use Rattle.pl_json.specs.Objects.{put_if_some}
+use Rattle.pl_checkpoint_text.specs.Spelled.{entry_fields, entry_data}
 use Rattle.pl_checkpoint_text.proofs.spelling.entry_value.Goals as goal
 
 -- one line for each field, the last one first

@@ -1,6 +1,6 @@
 use Rattle.std.proofs.Common.{ap, ◌∙◌}
 use Rattle.serde_json.specs.Data.{put}
-use Rattle.pl_members.specs.Spelled.{put_if_some}
+use Rattle.pl_json.specs.Objects.{put_if_some}
 use Rattle.pl_host_word.proofs.wording.put_early.Goals as goal
 
 -- one line for each field, the last one first

@@ -1,5 +1,6 @@
 use Rattle.std.proofs.Common.{codes, ap, ap₂, ◌∙◌}
-use Rattle.pl_members.specs.Spelled.{one_text, put_if_some}
+use Rattle.pl_json.specs.Objects.{put_if_some}
+use Rattle.pl_members.specs.Spelled.{one_text}
 use Rattle.pl_host_word.proofs.wording.put_late_read.Goals as goal
 
 -- one line for each field, the last one first

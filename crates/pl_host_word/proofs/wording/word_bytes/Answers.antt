@@ -1,7 +1,8 @@
 use Rattle.std.proofs.Common.{◌≡◌, List, ℕ, IfErr, IfOk, subst, length}
 use Rattle.pl_host_word.specs.Spelled.{word_text}
-use Rattle.pl_host_msg.specs.Answer.{IfTooLong}
-use Rattle.pl_host_word.proofs.Texts.{body_of, word_text-some, word_text_from}
+use Rattle.pl_members.specs.Message.{IfTooLong}
+use Rattle.pl_members.proofs.Bodies.{body_of}
+use Rattle.pl_host_word.proofs.Texts.{word_text-some, word_text_from}
 use Rattle.pl_host_word.proofs.wording.word_bytes.Goals as goal
 
 pub returns-clause-bytes : goal.returns-clause-bytes

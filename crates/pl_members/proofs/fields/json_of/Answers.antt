@@ -1,6 +1,6 @@
 use Rattle.std.proofs.Common.{◌∙◌, sym}
 use Rattle.std.proofs.lemmas.Bool.{false≢true}
-use Rattle.pl_members.proofs.JsonTexts.{json_of_text, json_of_no_text}
+use Rattle.pl_json.proofs.JsonTexts.{json_of_text, json_of_no_text}
 use Rattle.pl_members.proofs.fields.json_of.Goals as goal
 
 pub returns-in-Ok-clause-value : goal.returns-in-Ok-clause-value

@@ -1,7 +1,7 @@
 use Rattle.std.proofs.Common.{◌≡◌, ap, ◌∙◌}
 use Rattle.serde_json.specs.Data.{no_members}
 use Rattle.serde_json.specs.View.{view}
-use Rattle.pl_members.specs.Spelled.{texts_data}
+use Rattle.pl_json.specs.Objects.{texts_data}
 use Rattle.pl_members.proofs.InPlace.{with_keyed-next}
 use Rattle.pl_members.proofs.writing.spell_keyed.Goals as goal
 

@@ -1,7 +1,8 @@
 use Rattle.std.proofs.Common.{◌≡◌, map, take}
 use Rattle.serde_json.specs.Data.{no_members}
 use Rattle.serde_json.specs.View.{members_view}
-use Rattle.pl_members.specs.Spelled.{keyed_field, with_fields}
+use Rattle.pl_json.specs.Objects.{with_fields}
+use Rattle.pl_members.specs.Spelled.{keyed_field}
 use Rattle.pl_members.proofs.writing.spell_keyed.Given as goal
 
 -- what was made has the first lists

@@ -1,7 +1,8 @@
 use Rattle.std.proofs.Common.{◌≡◌, List, ℕ, IfErr, IfOk, subst, length}
 use Rattle.pl_provider_msg.specs.Response.{reply_text}
-use Rattle.pl_provider_msg.specs.Out.{IfTooLong}
-use Rattle.pl_provider_msg.proofs.Texts.{reply_text-some, reply_text_from, body_of}
+use Rattle.pl_members.specs.Message.{IfTooLong}
+use Rattle.pl_members.proofs.Bodies.{body_of}
+use Rattle.pl_provider_msg.proofs.Texts.{reply_text-some, reply_text_from}
 use Rattle.pl_provider_msg.proofs.replying.reply_bytes.Goals as goal
 
 pub returns-clause-bytes : goal.returns-clause-bytes
