@@ -56,12 +56,12 @@ use Rattle.pl_model.specs.Requests.{asked_by, default_goal, default_urn, fate_of
 use Rattle.pl_model.specs.Rows.{is_marked, is_to_be_made, left_rows, pending_at, row_at}
 use Rattle.pl_model.specs.State.{base_pending, creating_entry, entries_now, found_by, imported_by, imported_entries, is_cleared, opened_by, opened_of, own_pending, pending_for, pending_of, pending_read, pending_with, refreshed_entries, row_read, rows_read, state_of, updating_entry, updating_result, was_answered}
 use Rattle.pl_model.specs.Tickets.{answers_of, errand_at, op_at, reply_if, reply_to, same_op}
-use Rattle.pl_model_stays.proofs.Among.{find_among}
-use Rattle.pl_model_stays.proofs.Claiming.{was-made}
-use Rattle.pl_model_stays.proofs.Growing.{run_of}
-use Rattle.pl_model_stays.proofs.Once.{history_of}
-use Rattle.pl_model_stays.proofs.Pairs.{each-filter, each-mapped, each_map}
-use Rattle.pl_model_stays.proofs.Standing.{answers_as, closed_with}
+use Rattle.pl_model_stays.proofs.Lists.Among.{find_among}
+use Rattle.pl_model_stays.proofs.Goals.Claiming.{was-made}
+use Rattle.pl_model_stays.proofs.Lists.Growing.{run_of}
+use Rattle.pl_model_stays.proofs.Operations.Once.{history_of}
+use Rattle.pl_model_stays.proofs.Lists.Pairs.{each-filter, each-mapped, each_map}
+use Rattle.pl_model_stays.proofs.Goals.Standing.{answers_as, closed_with}
 use Rattle.pl_model_ends.specs.Ends.{StatesFormed}
 use Rattle.pl_model_ends.proofs.Forms.{Form, GoalForm, IfFormed, IfResult, entry-form, form-of, formed-by, keep-form, outputs-form, pruned-form, refreshed-form, replaced-form, reply-form, told-form, told-outputs-form, turns-form, with_form}
 use Rattle.pl_model_ends.proofs.Fulfilling.{event_of, opened_with}

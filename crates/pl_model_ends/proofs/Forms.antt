@@ -33,7 +33,7 @@ use Rattle.pl_model.specs.Run.{Pairs}
 use Rattle.pl_model.specs.Claims.{id_of_row, is_usable, kept_provider_id, usable_id}
 use Rattle.pl_model.specs.Entries.{Result, Turning, goal_entry, is_keep, is_update, kept_changed, kept_id, kept_new, kept_planned, kept_same, new_id, outputs_of_row, planned_by, result_of_keep, result_of_reply, result_with, turned, turned_entry, with_outputs}
 use Rattle.pl_model.specs.Known.{Known}
-use Rattle.pl_model_stays.proofs.Once.{both as and_made}
+use Rattle.pl_model_stays.proofs.Operations.Once.{both as and_made}
 use Rattle.pl_model_ends.proofs.Shallow.{marked-shallow, planned-shallow}
 
 -- ---- rows

@@ -28,15 +28,15 @@ use Rattle.pl_model.specs.Recording.{recorded_of}
 use Rattle.pl_model.specs.Rows.{is_left, is_target, row_numbers, takes_along}
 use Rattle.pl_model.specs.State.{base_pending, entries_now, is_answered, is_cleared, opened_by, opened_of, own_pending, pending_for, pending_of, refreshed_entries, was_answered}
 use Rattle.pl_model.specs.Tickets.{begun_of, is_closed}
-use Rattle.pl_model_stays.proofs.Growing.{numbered_below, run_of}
-use Rattle.pl_model_stays.proofs.KeptEntries.{recorded-has-entry}
-use Rattle.pl_model_stays.proofs.Once.{history_of, both}
-use Rattle.pl_model_stays.proofs.Recorded.{recorded-held, recorded_at_most_once}
-use Rattle.pl_model_stays.proofs.Staying.{recorded-as}
-use Rattle.pl_model_stays.proofs.Ticketing.{WasAnswered, closed_answered, closed_errand}
+use Rattle.pl_model_stays.proofs.Lists.Growing.{numbered_below, run_of}
+use Rattle.pl_model_stays.proofs.Goals.KeptEntries.{recorded-has-entry}
+use Rattle.pl_model_stays.proofs.Operations.Once.{history_of, both}
+use Rattle.pl_model_stays.proofs.Goals.Recorded.{recorded-held, recorded_at_most_once}
+use Rattle.pl_model_stays.proofs.Goals.Staying.{recorded-as}
+use Rattle.pl_model_stays.proofs.Operations.Ticketing.{WasAnswered, closed_answered, closed_errand}
 use Rattle.pl_model_laws.specs.Quiet.{IsAllDone}
-use Rattle.pl_model_laws.proofs.Quieting.{quiet-is-done}
-use Rattle.pl_model_laws.proofs.Troubles.{or_first}
+use Rattle.pl_model_laws.proofs.Endings.Quieting.{quiet-is-done}
+use Rattle.pl_model_laws.proofs.Endings.Troubles.{or_first}
 use Rattle.pl_model_ends.specs.Ends.{UpFulfils}
 use Rattle.pl_model_ends.proofs.Numbers.{all_once, each_number, none_kept}
 

@@ -35,18 +35,18 @@ use Rattle.pl_model.specs.Recording.{goal_of_op, is_thing, recorded_by, recorded
 use Rattle.pl_model.specs.Rows.{is_left, left_rows, row_numbers}
 use Rattle.pl_model.specs.State.{refreshed_entries, was_answered}
 use Rattle.pl_model.specs.Tickets.{begun_of, errand_at, is_closed, is_open, was_begun}
-use Rattle.pl_model_stays.proofs.Among.{find_among}
-use Rattle.pl_model_stays.proofs.Growing.{decisions-stay, run_of}
-use Rattle.pl_model_stays.proofs.KeptDue.{update_kin}
-use Rattle.pl_model_stays.proofs.KeptEntries.{recorded-has-entry}
-use Rattle.pl_model_stays.proofs.Once.{history_of, not_true, unclosed}
-use Rattle.pl_model_stays.proofs.Pairs.{each-passes}
-use Rattle.pl_model_stays.proofs.Recorded.{begun-held, recording-new}
-use Rattle.pl_model_stays.proofs.Standing.{closed_with}
-use Rattle.pl_model_stays.proofs.Staying.{errand_sent, recorded-as, sent_begun}
-use Rattle.pl_model_stays.proofs.Waiting.{false_or}
-use Rattle.pl_model_laws.proofs.Along.{left-row}
-use Rattle.pl_model_laws.proofs.Removing.{later-now, recorded-gone, unrecorded-left}
+use Rattle.pl_model_stays.proofs.Lists.Among.{find_among}
+use Rattle.pl_model_stays.proofs.Lists.Growing.{decisions-stay, run_of}
+use Rattle.pl_model_stays.proofs.Work.KeptDue.{update_kin}
+use Rattle.pl_model_stays.proofs.Goals.KeptEntries.{recorded-has-entry}
+use Rattle.pl_model_stays.proofs.Operations.Once.{history_of, not_true, unclosed}
+use Rattle.pl_model_stays.proofs.Lists.Pairs.{each-passes}
+use Rattle.pl_model_stays.proofs.Goals.Recorded.{begun-held, recording-new}
+use Rattle.pl_model_stays.proofs.Goals.Standing.{closed_with}
+use Rattle.pl_model_stays.proofs.Goals.Staying.{errand_sent, recorded-as, sent_begun}
+use Rattle.pl_model_stays.proofs.Work.Waiting.{false_or}
+use Rattle.pl_model_laws.proofs.Rows.Along.{left-row}
+use Rattle.pl_model_laws.proofs.Rows.Removing.{later-now, recorded-gone, unrecorded-left}
 use Rattle.pl_model_ends.proofs.Fulfilling.{event_of}
 use Rattle.pl_model_ends.proofs.Numbers.{each_number}
 use Rattle.pl_model_ends.proofs.Tally.{kept_low, one_added}

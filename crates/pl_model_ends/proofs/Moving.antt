@@ -20,8 +20,8 @@ use Rattle.pl_model.specs.Legal.{IsOrderly, MayHappen}
 use Rattle.pl_model.specs.Recording.{recorded_of}
 use Rattle.pl_model.specs.State.{entries_now, is_cleared, opened_by, opened_of}
 use Rattle.pl_model.specs.Tickets.{answers_of, begun_of}
-use Rattle.pl_model_stays.proofs.Counting.{no_more}
-use Rattle.pl_model_stays.proofs.Once.{not_true}
+use Rattle.pl_model_stays.proofs.Lists.Counting.{no_more}
+use Rattle.pl_model_stays.proofs.Operations.Once.{not_true}
 use Rattle.pl_model_ends.specs.Ends.{start_count}
 use Rattle.pl_model_ends.proofs.Fulfilling.{event_of}
 use Rattle.pl_model_ends.proofs.Tally.{kept_mapped, numbers_aside}

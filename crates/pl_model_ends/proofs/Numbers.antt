@@ -5,7 +5,7 @@ use Rattle.std.specs.List.{list_any, range_with_len}
 use Rattle.pl_lemmas.proofs.Numbers.{same_number, equal_numbers}
 use Rattle.pl_lemmas.proofs.Each.{Each, IsAmong, each_weaker}
 use Rattle.pl_lemmas.specs.Words.{has_number}
-use Rattle.pl_model_stays.proofs.Pairs.{each_names}
+use Rattle.pl_model_stays.proofs.Lists.Pairs.{each_names}
 
 -- a filter leaves nothing where each does not pass
 pub none_kept : {X : Type 0} (p : X → Bool) (xs : List X) → Each (λ x. p x ≡ false) xs → filter p xs ≡ []

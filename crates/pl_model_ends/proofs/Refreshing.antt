@@ -40,14 +40,14 @@ use Rattle.pl_model.specs.Recording.{cleared_of}
 use Rattle.pl_model.specs.Rows.{pending_at, row_numbers}
 use Rattle.pl_model.specs.State.{found_by, imported_entries, is_cleared, is_found, pending_read, refreshed_entries, row_read, rows_read}
 use Rattle.pl_model.specs.Tickets.{answers_of, closed_by, reply_if, reply_to, same_op}
-use Rattle.pl_model_stays.proofs.Among.{any_found}
-use Rattle.pl_model_stays.proofs.Claiming.{found_at}
-use Rattle.pl_model_stays.proofs.Growing.{answers_by, run_of}
-use Rattle.pl_model_stays.proofs.Once.{equal_ops, history_of}
-use Rattle.pl_model_stays.proofs.Standing.{answers_as, closed_with}
-use Rattle.pl_model_stays.proofs.Staying.{same_op_self}
-use Rattle.pl_model_stays.proofs.Waiting.{false_or}
-use Rattle.pl_model_laws.proofs.Importing.{IsNamedImport, IsShut, begun_named, each_shut, unread}
+use Rattle.pl_model_stays.proofs.Lists.Among.{any_found}
+use Rattle.pl_model_stays.proofs.Goals.Claiming.{found_at}
+use Rattle.pl_model_stays.proofs.Lists.Growing.{answers_by, run_of}
+use Rattle.pl_model_stays.proofs.Operations.Once.{equal_ops, history_of}
+use Rattle.pl_model_stays.proofs.Goals.Standing.{answers_as, closed_with}
+use Rattle.pl_model_stays.proofs.Goals.Staying.{same_op_self}
+use Rattle.pl_model_stays.proofs.Work.Waiting.{false_or}
+use Rattle.pl_model_laws.proofs.Rereadings.Importing.{IsNamedImport, IsShut, begun_named, each_shut, unread}
 use Rattle.pl_model_ends.proofs.Fulfilling.{event_of}
 use Rattle.pl_model_ends.proofs.Forming.{left_at}
 use Rattle.pl_model_ends.proofs.Limiting.{begun, errand}

@@ -5,8 +5,8 @@ use Rattle.std.proofs.lemmas.List.Elements.{filter-append, filter_map-append}
 use Rattle.std.specs.List.{cons_option, enumerate_from}
 use Rattle.pl_lemmas.proofs.Truth.{and_not}
 use Rattle.pl_lemmas.proofs.Each.{IsAmong}
-use Rattle.pl_model_stays.proofs.Among.{any_among}
-use Rattle.pl_model_stays.proofs.Counting.{fewer}
+use Rattle.pl_model_stays.proofs.Lists.Among.{any_among}
+use Rattle.pl_model_stays.proofs.Lists.Counting.{fewer}
 
 -- what one test leaves of what another one leaves
 pub kept_both : {X : Type 0} (p q : X → Bool) (xs : List X) → length (filter p (filter q xs)) ≡ length (filter (λ x. q x && p x) xs)

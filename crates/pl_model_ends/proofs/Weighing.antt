@@ -35,14 +35,14 @@ use Rattle.pl_model.specs.Recording.{cleared_by, cleared_of, goal_in, row_in}
 use Rattle.pl_model.specs.Rows.{is_left}
 use Rattle.pl_model.specs.State.{base_pending, creating_entry, entries_now, is_answered, is_cleared, is_found, opened_by, opened_of, own_pending, pending_for, pending_of, pending_with, updating_entry, was_answered}
 use Rattle.pl_model.specs.Tickets.{answers_of, begun_of, closed_by, closes, is_closed, open_errands, reply_to}
-use Rattle.pl_model_stays.proofs.Counting.{no_more}
-use Rattle.pl_model_stays.proofs.Growing.{answers_by, run_of}
-use Rattle.pl_model_stays.proofs.KeptDue.{due-opens}
-use Rattle.pl_model_stays.proofs.Once.{history_of}
-use Rattle.pl_model_stays.proofs.Standing.{answers_as}
-use Rattle.pl_model_stays.proofs.Staying.{any_more, or_more}
-use Rattle.pl_model_stays.proofs.Waiting.{left_low}
-use Rattle.pl_model_laws.proofs.TakenOut.{left-before}
+use Rattle.pl_model_stays.proofs.Lists.Counting.{no_more}
+use Rattle.pl_model_stays.proofs.Lists.Growing.{answers_by, run_of}
+use Rattle.pl_model_stays.proofs.Work.KeptDue.{due-opens}
+use Rattle.pl_model_stays.proofs.Operations.Once.{history_of}
+use Rattle.pl_model_stays.proofs.Goals.Standing.{answers_as}
+use Rattle.pl_model_stays.proofs.Goals.Staying.{any_more, or_more}
+use Rattle.pl_model_stays.proofs.Work.Waiting.{left_low}
+use Rattle.pl_model_laws.proofs.Rows.TakenOut.{left-before}
 use Rattle.pl_model_ends.proofs.Fulfilling.{event_of, opened_with}
 use Rattle.pl_model_ends.proofs.Tally.{kept_both, kept_mapped, kept_turned, one_kept, one_less}
 use Rattle.pl_model_ends.proofs.Numbers.{in_range}

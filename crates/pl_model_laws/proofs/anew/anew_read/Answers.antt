@@ -1,4 +1,4 @@
-use Rattle.pl_model_laws.proofs.Rereading as proof
+use Rattle.pl_model_laws.proofs.Rereadings.Rereading as proof
 use Rattle.pl_model_laws.proofs.anew.anew_read.Goals as goal
 
 pub returns : goal.returns

@@ -1,4 +1,4 @@
-use Rattle.pl_model_laws.proofs.Pruning as pruning
+use Rattle.pl_model_laws.proofs.Rereadings.Pruning as pruning
 use Rattle.pl_model_laws.proofs.anew.anew_sound.Goals as goal
 
 pub returns : goal.returns

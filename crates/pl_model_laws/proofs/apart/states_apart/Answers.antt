@@ -1,4 +1,4 @@
-use Rattle.pl_model_laws.proofs.Keeping as proof
+use Rattle.pl_model_laws.proofs.Urns.Keeping as proof
 use Rattle.pl_model_laws.proofs.apart.states_apart.Goals as goal
 
 pub returns : goal.returns

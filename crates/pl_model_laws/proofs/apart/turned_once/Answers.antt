@@ -1,4 +1,4 @@
-use Rattle.pl_model_laws.proofs.TurningProviders as proof
+use Rattle.pl_model_laws.proofs.Providing.TurningProviders as proof
 use Rattle.pl_model_laws.proofs.apart.turned_once.Goals as goal
 
 pub returns : goal.returns

@@ -1,4 +1,4 @@
-use Rattle.pl_model_laws.proofs.Chains as proof
+use Rattle.pl_model_laws.proofs.Rows.Chains as proof
 use Rattle.pl_model_laws.proofs.closure.chain_least.Goals as goal
 
 pub returns : goal.returns

@@ -1,4 +1,4 @@
-use Rattle.pl_model_laws.proofs.KeptSources as proof
+use Rattle.pl_model_laws.proofs.Saving.KeptSources as proof
 use Rattle.pl_model_laws.proofs.kept.sent_sourced.Goals as goal
 
 pub returns : goal.returns

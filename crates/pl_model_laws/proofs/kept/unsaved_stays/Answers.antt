@@ -1,4 +1,4 @@
-use Rattle.pl_model_laws.proofs.KeptState as proof
+use Rattle.pl_model_laws.proofs.Saving.KeptState as proof
 use Rattle.pl_model_laws.proofs.kept.unsaved_stays.Goals as goal
 
 pub returns : goal.returns

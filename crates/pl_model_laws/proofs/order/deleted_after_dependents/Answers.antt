@@ -1,4 +1,4 @@
-use Rattle.pl_model_laws.proofs.Dependents as proof
+use Rattle.pl_model_laws.proofs.Rows.Dependents as proof
 use Rattle.pl_model_laws.proofs.order.deleted_after_dependents.Goals as goal
 
 pub returns : goal.returns

@@ -1,4 +1,4 @@
-use Rattle.pl_model_laws.proofs.Foreseeing as proof
+use Rattle.pl_model_laws.proofs.Endings.Foreseeing as proof
 use Rattle.pl_model_laws.proofs.quiet.preview_recorded.Goals as goal
 
 pub returns : goal.returns

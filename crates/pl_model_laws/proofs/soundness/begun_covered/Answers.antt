@@ -1,4 +1,4 @@
-use Rattle.pl_model_laws.proofs.Covered as proof
+use Rattle.pl_model_laws.proofs.Saving.Covered as proof
 use Rattle.pl_model_laws.proofs.soundness.begun_covered.Goals as goal
 
 pub returns : goal.returns

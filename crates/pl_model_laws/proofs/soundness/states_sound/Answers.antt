@@ -1,5 +1,5 @@
-use Rattle.pl_model_laws.proofs.Founding as founding
-use Rattle.pl_model_stays.proofs.Recorded as recorded
+use Rattle.pl_model_laws.proofs.References.Founding as founding
+use Rattle.pl_model_stays.proofs.Goals.Recorded as recorded
 use Rattle.pl_model_laws.proofs.soundness.states_sound.Goals as goal
 
 pub returns : goal.returns

@@ -1,4 +1,4 @@
-use Rattle.pl_model_stays.proofs.KeptEntries as proof
+use Rattle.pl_model_stays.proofs.Goals.KeptEntries as proof
 use Rattle.pl_model_stays.proofs.kept.recorded_has_entry.Goals as goal
 
 pub returns : goal.returns

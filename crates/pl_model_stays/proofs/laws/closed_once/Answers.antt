@@ -1,4 +1,4 @@
-use Rattle.pl_model_stays.proofs.Once as proof
+use Rattle.pl_model_stays.proofs.Operations.Once as proof
 use Rattle.pl_model_stays.proofs.laws.closed_once.Goals as goal
 
 pub returns : goal.returns

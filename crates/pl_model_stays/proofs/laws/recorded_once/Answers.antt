@@ -1,4 +1,4 @@
-use Rattle.pl_model_stays.proofs.Recorded as proof
+use Rattle.pl_model_stays.proofs.Goals.Recorded as proof
 use Rattle.pl_model_stays.proofs.laws.recorded_once.Goals as goal
 
 pub returns : goal.returns

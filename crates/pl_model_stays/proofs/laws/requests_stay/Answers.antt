@@ -1,4 +1,4 @@
-use Rattle.pl_model_stays.proofs.Asking as proof
+use Rattle.pl_model_stays.proofs.Goals.Asking as proof
 use Rattle.pl_model_stays.proofs.laws.requests_stay.Goals as goal
 
 pub returns : goal.returns

@@ -1,4 +1,4 @@
-use Rattle.pl_model_stays.proofs.Falling as proof
+use Rattle.pl_model_stays.proofs.Work.Falling as proof
 use Rattle.pl_model_stays.proofs.left.left_falls.Goals as goal
 
 pub returns : goal.returns

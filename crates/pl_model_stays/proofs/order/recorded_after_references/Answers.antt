@@ -1,4 +1,4 @@
-use Rattle.pl_model_stays.proofs.Recorded as proof
+use Rattle.pl_model_stays.proofs.Goals.Recorded as proof
 use Rattle.pl_model_stays.proofs.order.recorded_after_references.Goals as goal
 
 pub returns : goal.returns

@@ -3,7 +3,7 @@ use Rattle.std.proofs.lemmas.Option.{same_Some}
 use Rattle.pl_state.specs.declared.goal.Goal.{Goal}
 use Rattle.pl_model.specs.Due.{references_recorded}
 use Rattle.pl_model.specs.History.{known_of}
-use Rattle.pl_model_stays.proofs.Recorded as proof
+use Rattle.pl_model_stays.proofs.Goals.Recorded as proof
 use Rattle.pl_model_stays.proofs.order.sent_after_references.Goals as goal
 
 pub returns : goal.returns
