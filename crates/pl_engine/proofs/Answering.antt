@@ -14,9 +14,10 @@ use Rattle.pl_events.specs.declared.event.Event.{Event}
 use Rattle.pl_events.specs.declared.event.What.{What}
 use Rattle.pl_events.specs.declared.event.What.TheVariants.{Posted}
 use Rattle.pl_events.specs.declared.event.Stop.{Stop}
-use Rattle.pl_host_msg.specs.Answer.{answer_text, IfTooLong}
-use Rattle.pl_host_msg.specs.declared.answer.MsgOut.{MsgOut}
-use Rattle.pl_host_msg.specs.declared.answer.MsgOut.TheVariants.{TooLong}
+use Rattle.pl_host_msg.specs.Answer.{answer_text}
+use Rattle.pl_members.specs.Message.{IfTooLong}
+use Rattle.pl_members.specs.declared.message.MsgOut.{MsgOut}
+use Rattle.pl_members.specs.declared.message.MsgOut.TheVariants.{TooLong}
 use Rattle.pl_host_msg.proofs.Texts.{answer_text_some}
 use Rattle.pl_world.specs.Causes.{OnFailed}
 use Rattle.pl_world.specs.declared.trouble.Trouble.{Trouble}

@@ -1,9 +1,7 @@
 -- The state that a run begins with, and what the store's content reads as.
-use Rattle.std.proofs.Common.{◌≡◌, ℕ, ◌-◌, ◌<◌, List, [], slice_get, IfSome, IfOk, refl, sym, ◌∙◌, ap, arith}
+use Rattle.std.proofs.Common.{◌≡◌, ℕ, List, [], sym, ◌∙◌, ap}
 use Rattle.pl_state.specs.declared.snapshot.Snapshot.{Snapshot}
-use Rattle.pl_components.specs.Run.{Fixed, state_with}
-use Rattle.pl_components.specs.Entries.{new_entries}
-use Rattle.pl_engine.specs.Content.{HasNothing, IsBaseFor, IsOther}
+use Rattle.pl_engine.specs.Content.{HasNothing}
 use Rattle.pl_engine.specs.Headline.{run_over}
 use Rattle.pl_engine.specs.Journal.{Consistent, run_of}
 use Rattle.pl_engine.specs.declared.journal.Journal.{Journal}

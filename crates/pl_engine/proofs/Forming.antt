@@ -7,7 +7,8 @@ use Rattle.pl_state.specs.declared.goal.Registration.{Registration}
 use Rattle.pl_events.specs.Requests.{is_formed_registration, is_formed_request, is_request_number}
 use Rattle.pl_events.specs.declared.event.Request.TheVariants.{Register}
 use Rattle.pl_host_msg.specs.declared.word.HostWord.TheVariants.{Request as Asks}
-use Rattle.pl_members.specs.Field.{json_of, present, text}
+use Rattle.pl_json.specs.Texts.{json_of}
+use Rattle.pl_members.specs.Field.{present, text}
 use Rattle.pl_host_msg.specs.Field.{optional_text, plain_type, request_number}
 use Rattle.pl_host_msg.specs.Word.{has_defaults, register_of, word_of, word_of_data}
 use Rattle.pl_host_msg.proofs.Numbers.{request_called, word_number_in_range}

@@ -12,3 +12,4 @@ pub mod Beginning
 pub mod Causing
 pub mod Printing
 pub mod Promising
+pub mod Evident

@@ -1,9 +1,8 @@
 -- What `state` prints, and what comes of it.
-use Rattle.std.proofs.Common.{◌≡◌, ℕ, zero, suc, ◌≤◌, Bool, true, false, List, [], ◌∷◌, length, take, Option, Some, None, refl, sym, ◌∙◌, ap, subst, inl, inr, arith, if◌then◌else◌}
+use Rattle.std.proofs.Common.{◌≡◌, ℕ, zero, suc, ◌≤◌, Bool, true, List, [], take, Option, Some, None, refl, sym, ◌∙◌, ap, subst, inl, inr, arith, if◌then◌else◌}
 use Rattle.std.proofs.lemmas.List.{append-nil}
-use Rattle.pl_cli.specs.Reading.{command_of, engine_words, is_state, spells_state, work_given}
+use Rattle.pl_cli.specs.Reading.{engine_words, is_state, spells_state, work_given}
 use Rattle.pl_cli.specs.declared.table.CommandName.{CommandName}
-use Rattle.pl_cli.specs.declared.table.CommandName.TheVariants as command
 use Rattle.pl_cli.specs.declared.table.StateWork.{StateWork}
 use Rattle.pl_decide.specs.declared.outcome.Outcome.{Outcome}
 use Rattle.pl_decide.specs.declared.outcome.Outcome.TheVariants.{Done, Failed, TooManyResources, BadWords, NotBuilt, BadCheckpoint, PendingOperations, StoreFault, SideFault, StartFault, PipeFault, SinkFault, ChildEnded, BadFrame, OutOfMemory}
@@ -11,7 +10,7 @@ use Rattle.pl_show.specs.StopLine.{stopped_line}
 use Rattle.pl_state.specs.declared.snapshot.Snapshot.{Snapshot}
 use Rattle.pl_world.specs.Told.{Grew}
 use Rattle.pl_engine.specs.Content.{IsBad, IsUnreadable, ReadsAs}
-use Rattle.pl_engine.specs.Printed.{AreLines, IsPrinted, IsShown, IsState, IsStateServed, MayRead, lines_of, state_or_none, stop_lines, told_line}
+use Rattle.pl_engine.specs.Printed.{AreLines, IsPrinted, IsShown, IsState, IsStateServed, lines_of, state_or_none, stop_lines, told_line}
 
 -- where the text is empty nothing was written
 grew-empty : (before now : Option (List ℕ)) → Grew before now [] → now ≡ before

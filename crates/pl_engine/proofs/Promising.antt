@@ -1,5 +1,5 @@
 -- What a run of components does is what the definitions of a history say.
-use Rattle.std.proofs.Common.{◌≡◌, ◌⊎◌, ℕ, Bool, true, false, List, [], ◌∷◌, ◌++◌, Option, None, Some, IfSome, MatchOption, refl, sym, ◌∙◌, ap, subst, inl, inr}
+use Rattle.std.proofs.Common.{◌≡◌, ◌⊎◌, ℕ, Bool, true, false, List, [], ◌∷◌, ◌++◌, Option, None, refl, sym, ◌∙◌, ap, subst, inl, inr}
 use Rattle.pl_urn.specs.Grammar.{IsScope}
 use Rattle.pl_world.specs.Counts.{Rose}
 use Rattle.pl_world.specs.Told.{Grew, Piece}
@@ -103,44 +103,6 @@ module _ (run : Fixed) (stack : IsScope run.stack) (project : IsScope run.projec
     done = λ success. done_too marks before now (is.done success);
   }
 
--- ---- where a host was started
-
-module _ {A : Type 0} (run : Fixed) (stack : IsScope run.stack) (project : IsScope run.project) (history : List Event) (faults : A → ℕ) (wanted : Bool) where
-  pub legal-promised : (host : Option A) (Unused : Type 0) → MatchOption host Unused (λ used. worked.IsLegalRun run history (faults used) wanted)
-      → MatchOption host Unused (λ used. promise.IsHistory run history (faults used) wanted)
-  legal-promised None Unused h = h
-  legal-promised (Some used) Unused h = history_too run stack project history h.legal (faults used) wanted h
-
-  pub saved-promised : (host : Option A) (Unused Untouched rose : Type 0) (marks : List ℕ) (before now : Option (List (List ℕ)))
-      → MatchOption host Unused (λ used. worked.IsLegalRun run history (faults used) wanted)
-      → MatchOption host Untouched (λ _. stored.IsKeptUp run host_spelling rose wanted history marks before now)
-      → MatchOption host Untouched (λ _. promise.IsKept run rose wanted history marks before now)
-  saved-promised None Unused Untouched rose marks before now legal h = h
-  saved-promised (Some used) Unused Untouched rose marks before now legal h =
-      kept_too run stack project history legal.legal rose wanted marks before now h
-
-  pub lines-promised : (host : Option A) (Unused : Type 0) (read_faults read_ends : A → ℕ) (taken : A → Option (List ℕ)) (given : A → Option (List Piece))
-      → MatchOption host Unused (λ used. worked.IsLegalRun run history (faults used) wanted)
-      → IfSome host (λ used. parts.HostLines run host_spelling
-      (record { faults = read_faults used; ends = read_ends used; wanted = wanted })
-      (record { faults = faults used; ends = 0; wanted = wanted }) history (taken used) (given used))
-      → IfSome host (λ used. promise.HostLines run
-      (record { faults = read_faults used; ends = read_ends used; wanted = wanted })
-      (record { faults = faults used; ends = 0; wanted = wanted }) history (taken used) (given used))
-  lines-promised None Unused read_faults read_ends taken given legal h = h
-  lines-promised (Some used) Unused read_faults read_ends taken given legal h =
-      lines_whole run stack project history legal.legal
-      (record { faults = read_faults used; ends = read_ends used; wanted = wanted })
-      (record { faults = faults used; ends = 0; wanted = wanted }) (taken used) (given used) h
-
-  pub outcome-promised : (host : Option A) (Unused Early : Type 0) (marks : List ℕ) (outcome : Outcome) (before now : Option (List (List ℕ)))
-      → MatchOption host Unused (λ used. worked.IsLegalRun run history (faults used) wanted)
-      → MatchOption host Early (λ _. worked.IsOutcome run history marks wanted outcome before now)
-      → MatchOption host Early (λ _. promise.IsOutcome run history marks wanted outcome before now)
-  outcome-promised None Unused Early marks outcome before now legal h = h
-  outcome-promised (Some used) Unused Early marks outcome before now legal h =
-      outcome_too run stack project history legal.legal marks wanted outcome before now h
-
 -- ---- what the definitions of components say alone
 
 -- no start failed: no child is started yet
@@ -159,28 +121,6 @@ no_start run (event ∷ past) legal =
     let here : is_stop_by is_start_fault event.what ≡ false = happens_no_start run past event.seat event.what legal.1 in
     rw here (no_start run past legal.0)
 
-start_caused : (run : Fixed) (history : List Event) (before now : ℕ) → IsLegal run host_spelling history → HasStartCause before now history
+pub start_caused : (run : Fixed) (history : List Event) (before now : ℕ) → IsLegal run host_spelling history → HasStartCause before now history
 start_caused run history before now legal =
     λ stands. absurd (let e : false ≡ true = sym (no_start run history legal) ∙ stands in cc)
-
-module _ {A : Type 0} (run : Fixed) (history : List Event) (faults : A → ℕ) (wanted : Bool) where
-  pub start-promised : (host : Option A) (Unused : Type 0) (before now : ℕ)
-      → MatchOption host Unused (λ used. worked.IsLegalRun run history (faults used) wanted)
-      → IfSome host (λ _. HasStartCause before now history)
-  start-promised None Unused before now legal = tt
-  start-promised (Some used) Unused before now legal = start_caused run history before now legal.legal
-
-  pub components-promised : (host : Option A) (Unused Untouched Early rose : Type 0) (read_faults read_ends : A → ℕ)
-      (taken : A → Option (List ℕ)) (given : A → Option (List Piece)) (marks : List ℕ) (outcome : Outcome) (before now : Option (List (List ℕ)))
-      → MatchOption host Unused (λ used. worked.IsLegalRun run history (faults used) wanted)
-      → MatchOption host Untouched (λ _. stored.IsKeptUp run host_spelling rose wanted history marks before now)
-      → IfSome host (λ used. parts.HostLines run host_spelling
-      (record { faults = read_faults used; ends = read_ends used; wanted = wanted })
-      (record { faults = faults used; ends = 0; wanted = wanted }) history (taken used) (given used))
-      → MatchOption host Early (λ _. worked.IsOutcome run history marks wanted outcome before now)
-      → IfSome host (λ used. promise.IsOfComponents run
-      (record { faults = read_faults used; ends = read_ends used; wanted = wanted })
-      (record { faults = faults used; ends = 0; wanted = wanted }) rose history marks (taken used) (given used) outcome before now)
-  components-promised None Unused Untouched Early rose read_faults read_ends taken given marks outcome before now legal saved lines done = tt
-  components-promised (Some used) Unused Untouched Early rose read_faults read_ends taken given marks outcome before now legal saved lines done =
-      record { legal = legal; saved = saved; host_lines = lines; outcome_is = done }

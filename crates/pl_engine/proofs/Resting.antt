@@ -1,6 +1,5 @@
 -- What is due after a request is told, and what is left when it was worked on.
-use Rattle.std.proofs.Common.{◌≡◌, ℕ, Bool, true, false, List, [], ◌∷◌, length, Option, Some, None, refl, arith, ◌==◌, nat_lt}
-use Rattle.std.proofs.lemmas.Bool.Decides.{nat_tests}
+use Rattle.std.proofs.Common.{◌≡◌, ℕ, Bool, true, false, List, [], ◌∷◌, length, Option, Some, None, refl, ◌==◌, nat_lt}
 use Rattle.std.proofs.Math.Bool.{and-false, or-true}
 use Rattle.pl_lemmas.proofs.Numbers.{same_number}
 use Rattle.pl_state.specs.Formed.{most_resources}

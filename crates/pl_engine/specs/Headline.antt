@@ -1,5 +1,5 @@
 -- What the top call promises.
-use Rattle.std.specs.Prelude.{⊤, ◌≡◌, ◌⊎◌, ◌<◌, ◌++◌, ℕ, Bool, true, false, IfSome, List, [], ◌∷◌, Option, Some, None, codes}
+use Rattle.std.specs.Prelude.{⊤, ◌≡◌, ◌⊎◌, ◌++◌, ℕ, Bool, true, false, IfSome, List, [], ◌∷◌, Option, Some, None, codes}
 use Rattle.pl_cli.specs.declared.table.OptionName.TheVariants.{Stack, Project}
 use Rattle.pl_cli.specs.Place.{given_value}
 use Rattle.pl_cli.specs.Reading.{bad_place, engine_words}

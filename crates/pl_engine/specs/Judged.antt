@@ -1,12 +1,10 @@
 -- How a registration is judged by the entries that the state has.
 use Rattle.std.specs.Prelude.{◌≡◌, ◌&&◌, not, Bool, is_none, List}
 use Rattle.pl_urn.specs.Grammar.{child_fault}
-use Rattle.pl_state.specs.declared.snapshot.Snapshot.{Snapshot}
 use Rattle.pl_state.specs.declared.entry.Entry.{Entry}
 use Rattle.pl_state.specs.declared.goal.Goal.{Goal}
 use Rattle.pl_state.specs.Component.{is_plain}
 use Rattle.pl_state.specs.declared.goal.Registration.{Registration}
-use Rattle.std.specs.Prelude.{ℕ}
 use Rattle.pl_components.specs.Run.{Fixed}
 use Rattle.pl_components.specs.Requests.{goal_for}
 use Rattle.pl_components.specs.Entries.{entry_of, has_entry}

@@ -13,3 +13,4 @@ pub mod Caused
 pub mod Content
 pub mod Promise
 pub mod Closing
+pub mod Evidence

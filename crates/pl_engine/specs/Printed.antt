@@ -1,5 +1,5 @@
 -- What `state` prints, and when.
-use Rattle.std.specs.Prelude.{⊤, ◌≡◌, ◌⊎◌, ℕ, Bool, true, if◌then◌else◌, List, [], Option, Some, None}
+use Rattle.std.specs.Prelude.{◌≡◌, ◌⊎◌, ℕ, Bool, true, if◌then◌else◌, List, [], Option, Some, None}
 use Rattle.pl_cli.specs.Reading.{bad_place, command_of, engine_words, spells_state, work_given}
 use Rattle.pl_cli.specs.declared.table.CommandName.TheVariants as command
 use Rattle.pl_cli.specs.declared.table.StateWork.{StateWork}

@@ -2,6 +2,7 @@
 #![tactic(auto)]
 
 mod content;
+mod evidence;
 mod finish;
 mod hear;
 mod hostless;

@@ -1,4 +1,4 @@
-use Rattle.std.proofs.Common.{◌≡◌, ◌∙◌, ap, subst, Bool, List, [], Some, map, string_bytes, if◌then◌else◌}
+use Rattle.std.proofs.Common.{◌≡◌, ◌∙◌, ap, subst, Bool, [], Some, map, string_bytes, if◌then◌else◌}
 use Rattle.pl_cli.specs.declared.command.Command.{Command}
 use Rattle.pl_cli.specs.Command.{IfState, name_of}
 use Rattle.pl_cli.specs.Reading.{engine_words, work_given}
