@@ -9,7 +9,7 @@ use Rattle.pl_snap.specs.Lists.{changed_first, without_first}
 use Rattle.pl_snap.specs.Model.{Merged, Row, Waiting, stamps_of, waiting_of}
 use Rattle.pl_snap.specs.Rows.{claim_taken, doomed_row, first_rows, first_waiting, is_row, set_rows, turned_if, turned_rows}
 use Rattle.pl_snap.specs.Stamps.{AreBelow, AreDistinct, all_bearers, all_stamps, bearers}
-use Rattle.pl_snap.specs.Turning.{Turning, mentions}
+use Rattle.pl_turning.specs.Turning.{Turning, mentions}
 
 -- ---- one stamp
 
@@ -22,13 +22,6 @@ one_if own stamp = one_when (own == stamp)
 
 one_if-same : (n : ℕ) → one_if n n ≡ 1
 one_if-same n = ap one_when (eq-eqb n n refl)
-
-one_if-most : (own stamp : ℕ) → one_if own stamp ≤ 1
-one_if-most own stamp = by (own == stamp)
-  where
-    by : (b : Bool) → one_when b ≤ 1
-    by true = omega arith
-    by false = omega arith
 
 one_if-below : (own stamp : ℕ) → own < stamp → one_if own stamp ≡ 0
 one_if-below own stamp low = by (own == stamp) refl

@@ -1,6 +1,6 @@
 -- What the stamps tell over each call.
-use Rattle.std.proofs.Common.{◌≡◌, ℕ, zero, suc, ◌+◌, ◌<◌, ◌≤◌, ◌⊎◌, inl, inr, Bool, true, false, cond, ◌||◌, Option, None, Some, option_map, option_and_then, List, [], ◌∷◌, ◌++◌, length, map, slice_get, bytes_eq, refl, ap, sym, subst, ◌∙◌, arith}
-use Rattle.std.specs.List.{enumerate_from, list_any}
+use Rattle.std.proofs.Common.{◌≡◌, ℕ, zero, suc, ◌+◌, ◌<◌, ◌≤◌, ◌⊎◌, inl, inr, Bool, true, false, cond, ◌||◌, Option, None, Some, option_map, option_and_then, List, [], ◌∷◌, ◌++◌, map, slice_get, refl, ap, sym, subst, ◌∙◌, arith}
+use Rattle.std.specs.List.{list_any}
 use Rattle.pl_lemmas.proofs.Truth.{neither_left, neither_right}
 use Rattle.pl_reference.specs.declared.reference.ProviderRef.{ProviderRef}
 use Rattle.pl_lemmas.specs.Words.{some_passes}
@@ -11,9 +11,9 @@ use Rattle.pl_snap.specs.Calls.{is_goal, with_entry, with_opened, with_outputs, 
 use Rattle.pl_snap.specs.declared.fresh.Fresh.{Fresh}
 use Rattle.pl_snap.specs.Lists.{changed_first, without_first}
 use Rattle.pl_snap.specs.Model.{Merged, Row, Waiting}
-use Rattle.pl_snap.specs.Rows.{claim_taken, claimed_row, doomed_row, is_row, is_waiting, replaced_row, rows_after, set_rows, turned_if, turned_row, turned_rows, turning_of}
+use Rattle.pl_snap.specs.Rows.{claim_taken, claimed_row, doomed_row, is_row, is_waiting, replaced_row, set_rows, turned_if, turned_row, turned_rows, turning_of}
 use Rattle.pl_snap.specs.Stamps.{Follows, KeepsBelow, stamped_entries, stamped_pending}
-use Rattle.pl_snap.specs.Turning.{Turning, is_urn, mentions, turned, turned_entry, turned_pairs, turned_reference}
+use Rattle.pl_turning.specs.Turning.{Turning, is_urn, mentions, turned, turned_entry, turned_pairs, turned_reference}
 
 -- ---- an entry that does not have the URN is not changed
 

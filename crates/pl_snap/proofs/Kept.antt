@@ -1,5 +1,5 @@
 -- What holds of a merged snapshot at any time still holds after each call.
-use Rattle.std.proofs.Common.{◌≡◌, ℕ, suc, ◌+◌, ◌<◌, ◌≤◌, ◌^◌, Bool, true, false, cond, Option, None, Some, option_and_then, List, [], ◌∷◌, ◌++◌, length, map, refl, ap, sym, subst, ◌∙◌, arith, length-append}
+use Rattle.std.proofs.Common.{◌≡◌, ℕ, suc, ◌+◌, ◌<◌, ◌≤◌, ◌^◌, Bool, true, false, cond, Option, None, Some, option_and_then, List, [], ◌∷◌, ◌++◌, length, map, refl, ap, subst, arith, length-append}
 use Rattle.std.specs.List.{enumerate_from}
 use Rattle.pl_state.specs.declared.entry.Entry.{Entry}
 use Rattle.pl_state.specs.declared.pending.Pending.{Pending}
@@ -7,9 +7,9 @@ use Rattle.pl_snap.specs.declared.fresh.Fresh.{Fresh}
 use Rattle.pl_snap.specs.Lists.{changed_first, without_first}
 use Rattle.pl_snap.specs.Model.{Row, Waiting}
 use Rattle.pl_snap.specs.Rows.{claim_taken, claimed_row, doomed_row, first_rows, first_waiting, is_row, rows_after, set_rows, turned_if, turned_row, turning_of}
-use Rattle.pl_snap.specs.Stamps.{all_bearers, bearers, IsKept}
-use Rattle.pl_snap.specs.Turning.{Turning}
-use Rattle.pl_snap.proofs.Bearers.{AreGiven, among, bearers-append, bearers-changed, bearers-first_rows, bearers-first_waiting, bearers-last, bearers-set_rows, bearers-taken, bearers-turned, bearers-without, given-less, given-more, given-new, one_if}
+use Rattle.pl_snap.specs.Stamps.{all_bearers, IsKept}
+use Rattle.pl_turning.specs.Turning.{Turning}
+use Rattle.pl_snap.proofs.Bearers.{AreGiven, among, bearers-changed, bearers-first_rows, bearers-first_waiting, bearers-last, bearers-set_rows, bearers-taken, bearers-turned, bearers-without, given-less, given-more, given-new, one_if}
 
 -- ---- lengths
 

@@ -1,7 +1,8 @@
 -- Lists side by side, and the first element of a kind.
-use Rattle.std.proofs.Common.{◌≡◌, ℕ, zero, suc, ◌+◌, ◌<◌, Bool, true, false, cond, Option, None, Some, option_map, List, [], ◌∷◌, ◌++◌, length, map, find, take, drop, refl, ap, sym, subst, ◌∙◌, arith}
+use Rattle.std.proofs.Common.{◌≡◌, ℕ, zero, suc, ◌+◌, ◌<◌, Bool, true, false, cond, Option, None, Some, option_map, List, [], ◌∷◌, ◌++◌, length, map, find, refl, ap, sym, subst, ◌∙◌, arith}
 use Rattle.std.specs.Prelude.{position, slice_get, slice_set, remove}
 use Rattle.std.specs.List.{position_from}
+use Rattle.std.specs.Option.{option_or}
 use Rattle.std.proofs.lemmas.Iterator.Adapters.{position_from-zero}
 use Rattle.pl_snap.specs.Lists.{changed_at, changed_first, without_first, zip_by}
 
@@ -205,3 +206,35 @@ placed_step p u c false x xs (Some j) k e same rest =
 pub changed_place : {X : Type 0} (p : X → Bool) (u c : X → X) (xs : List X) (k : ℕ) → place p xs ≡ Some k → ((y : X) → slice_get xs k ≡ Some y → u y ≡ c y) → changed_at u k xs ≡ changed_first p c xs
 changed_place p u c [] k e same = absurd (cc)
 changed_place p u c (x ∷ xs) k e same = placed_step p u c (p x) x xs (place p xs) k e same (λ j h. changed_place p u c xs j h)
+
+-- ---- the first place, with one element more or one changed
+
+more_step : (p : Option ℕ) (t : Bool) (n : ℕ) → option_map suc (option_or p (cond t (Some n) None)) ≡ option_or (option_map suc p) (cond t (Some (suc n)) None)
+more_step (Some k) t n = refl
+more_step None true n = refl
+more_step None false n = refl
+
+place_more : (b t : Bool) (n : ℕ) (p more : Option ℕ) → more ≡ option_or p (cond t (Some n) None) → cond b (Some 0) (option_map suc more) ≡ option_or (cond b (Some 0) (option_map suc p)) (cond t (Some (suc n)) None)
+place_more true t n p more e = refl
+place_more false t n p more e = ap (option_map suc) e ∙ more_step p t n
+
+place-push : {X : Type 0} (test : X → Bool) (xs : List X) (y : X) → place test (xs ++ y ∷ []) ≡ option_or (place test xs) (cond (test y) (Some (length xs)) None)
+place-push test [] y = refl
+place-push test (x ∷ xs) y = place_more (test x) (test y) (length xs) (place test xs) (place test (xs ++ y ∷ [])) (place-push test xs y)
+
+pub position-push : {X : Type 0} (test : X → Bool) (xs : List X) (y : X) → position test (xs ++ y ∷ []) ≡ option_or (position test xs) (cond (test y) (Some (length xs)) None)
+position-push test xs y =
+    position-place test (xs ++ y ∷ []) ∙ place-push test xs y
+    ∙ ap (λ (o : Option ℕ). option_or o (cond (test y) (Some (length xs)) None)) (sym (position-place test xs))
+
+place-changed : {X : Type 0} (test : X → Bool) (change : X → X) → ((x : X) → test (change x) ≡ test x) → (xs : List X) (k : ℕ) → place test (changed_at change k xs) ≡ place test xs
+place-changed test change same [] k = refl
+place-changed test change same (x ∷ xs) zero = ap (λ (b : Bool). cond b (Some 0) (option_map suc (place test xs))) (same x)
+place-changed test change same (x ∷ xs) (suc k) =
+    ap (place test) (changed_at-suc change k x xs)
+    ∙ ap (λ (o : Option ℕ). cond (test x) (Some 0) (option_map suc o)) (place-changed test change same xs k)
+
+-- a change that leaves what passes leaves the first place
+pub position-changed : {X : Type 0} (test : X → Bool) (change : X → X) → ((x : X) → test (change x) ≡ test x) → (xs : List X) (k : ℕ) → position test (changed_at change k xs) ≡ position test xs
+position-changed test change same xs k =
+    position-place test (changed_at change k xs) ∙ place-changed test change same xs k ∙ sym (position-place test xs)

@@ -1,5 +1,5 @@
 -- Rows and pending operations, by their tags.
-use Rattle.std.proofs.Common.{◌≡◌, ℕ, zero, suc, ◌+◌, ◌<◌, ◌≤◌, ◌^◌, ◌==◌, Bool, true, false, cond, Option, None, Some, option_map, option_and_then, List, [], ◌∷◌, ◌++◌, length, map, find, take, drop, get_or, count_by, refl, ap, sym, subst, ◌∙◌, arith, eqb-true, eq-eqb, suc-ne-zero}
+use Rattle.std.proofs.Common.{◌≡◌, ℕ, zero, suc, ◌+◌, ◌<◌, ◌≤◌, ◌^◌, Bool, true, false, cond, Option, None, Some, option_map, option_and_then, List, [], ◌∷◌, ◌++◌, length, map, find, take, get_or, count_by, refl, ap, sym, subst, ◌∙◌, arith, eqb-true, eq-eqb, suc-ne-zero}
 use Rattle.std.specs.Prelude.{position, slice_get, remove, bytes_eq}
 use Rattle.std.specs.List.{enumerate_from, range_with_len}
 use Rattle.std.proofs.lemmas.List.{take_more, map-id}
@@ -9,9 +9,9 @@ use Rattle.pl_state.specs.declared.entry.Entry.{Entry}
 use Rattle.pl_state.specs.declared.pending.Pending.{Pending}
 use Rattle.pl_snap.specs.declared.tag.Tag.{Tag}
 use Rattle.pl_snap.specs.Lists.{changed_at, changed_first, without_first, zip_by}
-use Rattle.pl_snap.specs.Model.{Row, Waiting}
+use Rattle.pl_snap.specs.Model.{Row}
 use Rattle.pl_snap.specs.Rows.{first_rows, first_tags, first_waiting, fits, has_number, is_counted, is_row, is_waiting, rows_in, set_end, set_rows, stamped, tagged_pending, tagged_row, tagged_rows, turned_row, turned_rows, turned_tag, turned_tags, turning_of}
-use Rattle.pl_snap.specs.Turning.{Turning, mentions, turned_entry}
+use Rattle.pl_turning.specs.Turning.{Turning, turned_entry}
 use Rattle.pl_snap.proofs.ListLemmas.{changed_zip, found_zip, get_map, length-changed_at, length-zip, map_first, map_second, missing_zip, place, place_within, position-place, removed_zip, zip-append}
 use Rattle.pl_snap.proofs.Kept.{length-set_rows}
 

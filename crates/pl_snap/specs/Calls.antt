@@ -1,5 +1,5 @@
 -- What each call leaves of the merged snapshot.
-use Rattle.std.specs.Prelude.{ℕ, suc, ◌+◌, ◌-◌, ◌^◌, ◌==◌, Bool, true, false, Option, None, Some, option_and_then, option_map, List, [], ◌∷◌, ◌++◌, count_by, find, length}
+use Rattle.std.specs.Prelude.{ℕ, ◌+◌, ◌-◌, ◌^◌, ◌==◌, Bool, Option, List, [], ◌∷◌, ◌++◌, count_by, length}
 use Rattle.pl_value.specs.Secrets.{marked}
 use Rattle.pl_value.specs.declared.value.Value.{Value}
 use Rattle.pl_state.specs.declared.entry.Entry.{Entry}
@@ -7,7 +7,7 @@ use Rattle.pl_state.specs.declared.pending.Pending.{Pending}
 use Rattle.pl_state.specs.declared.snapshot.Snapshot.{Snapshot}
 use Rattle.pl_snap.specs.declared.fresh.Fresh.{Fresh}
 use Rattle.pl_snap.specs.Lists.{changed_first, without_first}
-use Rattle.pl_snap.specs.Model.{Merged, Row, Waiting, entries_of, waiting_of}
+use Rattle.pl_snap.specs.Model.{Merged, entries_of, waiting_of}
 use Rattle.pl_snap.specs.Rows.{claim_taken, first_rows, first_waiting, is_counted, is_row, is_waiting, replaced_row, rows_after, set_rows}
 
 -- a state with nothing recorded yet

@@ -1,5 +1,5 @@
 -- Words on lists: the first element of a kind, and two lists side by side.
-use Rattle.std.specs.Prelude.{ℕ, Bool, if◌then◌else◌, Option, None, Some, List, [], ◌∷◌, slice_get, slice_set}
+use Rattle.std.specs.Prelude.{ℕ, Bool, if◌then◌else◌, None, Some, List, [], ◌∷◌, slice_get, slice_set}
 
 -- a list without its first element that passes a test
 abbrev pub without_first : {X : Type 0} → (X → Bool) → List X → List X

@@ -1,5 +1,5 @@
 -- Rows and pending operations by their numbers, and what changes them.
-use Rattle.std.specs.Prelude.{ℕ, suc, ◌+◌, ◌==◌, Bool, true, false, not, ◌||◌, if◌then◌else◌, Option, None, Some, option_and_then, List, [], ◌∷◌, bytes_eq, find, length, map}
+use Rattle.std.specs.Prelude.{ℕ, ◌+◌, ◌==◌, Bool, true, false, ◌&&◌, if◌then◌else◌, Option, None, Some, option_and_then, List, [], ◌∷◌, bytes_eq, find, length, map, nat_le}
 use Rattle.std.specs.List.{enumerate_from, range_with_len}
 use Rattle.pl_state.specs.declared.entry.Entry.{Entry}
 use Rattle.pl_state.specs.declared.pending.Pending.{Pending}
@@ -8,7 +8,7 @@ use Rattle.pl_state.specs.declared.pending.PendingKind.TheVariants.{Creating, Up
 use Rattle.pl_snap.specs.declared.tag.Tag.{Tag}
 use Rattle.pl_snap.specs.Lists.{changed_first, without_first, zip_by}
 use Rattle.pl_snap.specs.Model.{Row, Waiting}
-use Rattle.pl_snap.specs.Turning.{Turning, mentions, turned_entry}
+use Rattle.pl_turning.specs.Turning.{Turning, mentions, turned_entry}
 
 -- ---- rows
 
@@ -82,6 +82,11 @@ rows_after urn claim first rows = turned_if (option_and_then (turning_of urn) (c
 -- whether a tag has this number
 abbrev pub has_number : ℕ → Tag → Bool
 has_number number tag = tag.number == number
+
+-- whether the numbers of tags rise, from a least one on
+abbrev pub rise_from : ℕ → List Tag → Bool
+rise_from least [] = true
+rise_from least (tag ∷ tags) = nat_le least tag.number && rise_from (tag.number + 1) tags
 
 -- so many tags, numbered from 0 and stamped from a stamp on
 abbrev pub first_tags : ℕ → ℕ → List Tag

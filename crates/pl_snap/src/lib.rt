@@ -4,10 +4,10 @@
 
 mod fresh;
 mod laws;
+mod recorded;
 mod rows;
 mod snap;
 mod tag;
-mod turning;
 mod waiting;
 
 pub use laws::stamps_tell;

@@ -1,11 +1,11 @@
-ghost use Rattle.std.specs.Prelude.{◌≡◌, ◌+◌, ◌<◌, ◌≤◌, ◌^◌, ◌++◌, find, IfOk, length, map, OnOk, option_and_then, option_map, slice_get, Some, unwrap_or};
+ghost use Rattle.std.specs.Prelude.{◌≡◌, ◌+◌, ◌<◌, ◌≤◌, ◌^◌, ◌++◌, find, IfOk, length, map, OnOk, option_and_then, option_map, slice_get, Some, true, unwrap_or};
 ghost use Rattle.pl_snap.specs.Lists.{changed_at, changed_first, without_first};
 ghost use Rattle.pl_snap.specs.Rows as spec;
-ghost use Rattle.pl_snap.specs.Turning.{turned_entry};
+ghost use Rattle.pl_turning.specs.Turning.{turned_entry};
 
 use crate::tag::{Tag, place_of};
-use crate::turning::{has_mention, is_same, turn_entry};
 use pl_state::{Entries, Entry};
+use pl_turning::{has_mention, is_same, turn_entry};
 use pl_urn::Urn;
 use pl_value::OutOfMemory;
 use std::alloc::Global;
@@ -16,7 +16,7 @@ use std::mem;
 #[derive(Debug, Drop)]
 pub struct OldRows {
     entries: Vec<Entry>,
-    /// One for each entry; none where the entries were set whole.
+    /// One for each entry, their numbers rising; none where the entries were set whole.
     tags: Vec<Tag>,
     /// The stamp of the first entry, where the entries were set whole.
     set_at: Option<u64>,
@@ -27,7 +27,7 @@ impl Model for OldRows {
     ghost use Rattle.pl_value.specs.contracts.value.Value as value;
     ghost use Rattle.std.specs.Prelude.{◌≡◌, ◌≤◌, ◌^◌, List, length, true};
     ghost use Rattle.pl_snap.specs.Model.{Row};
-    ghost use Rattle.pl_snap.specs.Rows.{fits, rows_in, set_end};
+    ghost use Rattle.pl_snap.specs.Rows.{fits, rise_from, rows_in, set_end};
 
     ghost Value = { List Row };
 
@@ -35,7 +35,7 @@ impl Model for OldRows {
 
     ghost view = { λ a. rows_in a.set_at a.tags.items a.entries.items };
 
-    ghost invariant = { λ a. (fits a.set_at a.tags.items a.entries.items ≡ true) × (set_end a.set_at (length a.entries.items) ≤ 2 ^ 62) };
+    ghost invariant = { λ a. (fits a.set_at a.tags.items a.entries.items ≡ true) × (set_end a.set_at (length a.entries.items) ≤ 2 ^ 62) × (rise_from 0 a.tags.items ≡ true) };
 }
 
 fn turn_entries(
@@ -127,7 +127,8 @@ fn copy_rows(alloc: Global, rows: &[Entry], into: &mut Entries) -> Result<(), Ou
 impl OldRows {
     /// Rows with a tag for each; takes no memory.
     pub fn new(entries: Vec<Entry>, tags: Vec<Tag>) -> OldRows
-        requires { length tags.items ≡ length entries.items }
+        requires tagged { length tags.items ≡ length entries.items }
+        requires rising { spec.rise_from 0 tags.items ≡ true }
         ensures { result ≡ spec.tagged_rows tags.items entries.items }
     {
         OldRows {

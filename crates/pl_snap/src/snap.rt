@@ -4,7 +4,8 @@ ghost use Rattle.pl_snap.specs.Model.{entries_of, stamps_of, state_of, waiting_o
 ghost use Rattle.pl_snap.specs.Rows.{is_row};
 ghost use Rattle.pl_snap.specs.Stamps.{AreBelow, AreDistinct, all_stamps};
 
-use crate::fresh::{Fresh, copy_fresh, put_told};
+use crate::fresh::Fresh;
+use crate::recorded::Recorded;
 use crate::rows::OldRows;
 use crate::tag::{Tag, new_tags};
 use crate::waiting::Waitings;
@@ -18,7 +19,7 @@ use std::marker::Model;
 #[derive(Debug, Drop)]
 pub struct Snap {
     stack: Text,
-    fresh: Vec<Fresh>,
+    fresh: Recorded,
     rows: OldRows,
     base_pending: Waitings,
     own_pending: Waitings,
@@ -38,7 +39,7 @@ impl Model for Snap {
 
     ghost view = { λ a. record {
       stack = a.stack;
-      fresh = a.fresh.items;
+      fresh = a.fresh;
       rows = a.rows;
       base_pending = a.base_pending;
       own_pending = a.own_pending;
@@ -46,7 +47,7 @@ impl Model for Snap {
       next_stamp = a.next_stamp;
     } };
 
-    ghost invariant = { λ a. IsKept a.fresh.items a.rows a.base_pending a.own_pending a.next_stamp };
+    ghost invariant = { λ a. IsKept a.fresh a.rows a.base_pending a.own_pending a.next_stamp };
 }
 
 // Whether so many stamps are left after the last one that is taken.
@@ -86,7 +87,7 @@ impl Snap {
         } = base;
         Ok(Snap {
             stack,
-            fresh: Vec::new(alloc),
+            fresh: Recorded::new(alloc),
             rows: OldRows::new(entries.into_vec(), row_tags),
             base_pending: Waitings::new(pending.into_vec(), tags),
             own_pending: Waitings::new(Vec::new(alloc), Vec::new(alloc)),
@@ -119,14 +120,15 @@ impl Snap {
         let Ok(turned) = self.rows.turned_if(alloc, claim, &entry.urn, stamp + 2) else {
             return Err((entry, OutOfMemory));
         };
-        if self.fresh.reserve(1).is_err() {
-            return Err((entry, OutOfMemory));
+        match self.fresh.add(Fresh { goal, stamp, entry }) {
+            Err((one, refused)) => Err((one.entry, refused)),
+            Ok(()) => {
+                self.rows.take_rows(turned);
+                self.rows.take_claim(claim, marked, stamp + 1);
+                self.next_stamp = stamp + 2 + places as u64;
+                Ok(())
+            }
         }
-        self.rows.take_rows(turned);
-        self.rows.take_claim(claim, marked, stamp + 1);
-        self.fresh.push(Fresh { goal, stamp, entry }).unwrap();
-        self.next_stamp = stamp + 2 + places as u64;
-        Ok(())
     }
 
     /// Puts outputs into the entry that was recorded of a goal, those that it names kept as secrets. After
@@ -146,7 +148,7 @@ impl Snap {
         if !has_stamps(stamp, 1) {
             return Err((outputs, OutOfMemory));
         }
-        match put_told(alloc, &mut self.fresh, goal, stamp, outputs) {
+        match self.fresh.put_told(alloc, goal, stamp, outputs) {
             Err(refused) => Err(refused),
             Ok(()) => {
                 self.next_stamp = stamp + 1;
@@ -258,7 +260,7 @@ impl Snap {
         let stack = self.stack.copy()?;
         let rest = self.rest.copy()?;
         let mut entries = Entries::new(alloc);
-        copy_fresh(alloc, self.fresh.as_slice(), &mut entries)?;
+        self.fresh.copy_into(alloc, &mut entries)?;
         self.rows.copy_into(alloc, &mut entries)?;
         let mut pending = Pendings::new(alloc);
         self.base_pending.copy_into(alloc, &mut pending)?;

@@ -1,5 +1,5 @@
-ghost use Rattle.std.specs.Prelude.{◌≡◌, ◌+◌, ◌<◌, ◌^◌, IfOk, position};
-ghost use Rattle.pl_snap.specs.Rows.{first_tags, has_number};
+ghost use Rattle.std.specs.Prelude.{◌≡◌, ◌+◌, ◌<◌, ◌^◌, IfOk, position, true};
+ghost use Rattle.pl_snap.specs.Rows.{first_tags, has_number, rise_from};
 
 use pl_value::OutOfMemory;
 use std::alloc::Global;
@@ -25,9 +25,11 @@ pub fn new_tags(alloc: Global, count: u64, first: u64) -> Result<Vec<Tag>, OutOf
     Ok(tags)
 }
 
-/// The place of the first tag with this number.
+/// The place of the tag with this number among tags whose numbers rise, in a time that grows with the logarithm of
+/// their count.
 pub fn place_of(tags: &[Tag], number: u64) -> Option<usize>
+    requires { rise_from 0 tags.now ≡ true }
     ensures { result ≡ position (has_number number) tags.now }
 {
-    tags.iter().position(|tag| tag.number == number)
+    tags.binary_search_by_key(&number, |tag| tag.number).ok()
 }

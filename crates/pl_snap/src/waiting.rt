@@ -1,8 +1,8 @@
-ghost use Rattle.std.specs.Prelude.{◌≡◌, ◌<◌, [], ◌∷◌, ◌++◌, count_by, if◌then◌else◌, IfErr, length, map, OnErr, OnOk, option_map, slice_get, Some};
+ghost use Rattle.std.specs.Prelude.{◌≡◌, ◌+◌, ◌<◌, [], ◌∷◌, ◌++◌, count_by, if◌then◌else◌, IfErr, length, map, OnErr, OnOk, option_map, position, remove, slice_get, Some};
 ghost use Rattle.pl_snap.specs.Lists.{without_first, zip_by};
 ghost use Rattle.pl_snap.specs.Rows as spec;
 
-use crate::tag::{Tag, place_of};
+use crate::tag::Tag;
 use pl_state::{Pending, PendingKind, Pendings};
 use pl_value::OutOfMemory;
 use std::alloc::Global;
@@ -49,6 +49,14 @@ fn weight(pending: &Pending) -> usize
     if counts(pending) { 1 } else { 0 }
 }
 
+/// The place of the first tag with this number. It looks at each of the operations that are pending, and at none that
+/// is done: of the run there are no more of them than tickets that are open.
+fn place_among(tags: &[Tag], number: u64) -> Option<usize>
+    ensures { result ≡ position (spec.has_number number) tags.now }
+{
+    tags.iter().position(|tag| tag.number == number)
+}
+
 fn count_of(operations: &[Pending]) -> usize
     ensures { result ≡ count_by spec.is_counted operations.now }
 {
@@ -59,6 +67,17 @@ fn count_of(operations: &[Pending]) -> usize
         }
     }
     counted
+}
+
+/// Takes the operation at a place out, and tells by how much fewer count.
+fn take_out(operations: &mut Vec<Pending>, place: usize) -> usize
+    requires { place < length operations.old.items }
+    ensures rest { operations.new.items ≡ remove operations.old.items place }
+    ensures fewer { count_by spec.is_counted operations.new.items + result ≡ count_by spec.is_counted operations.old.items }
+{
+    let fewer = weight(&operations[place]);
+    operations.remove(place);
+    fewer
 }
 
 fn copy_pending(
@@ -138,10 +157,9 @@ impl Waitings {
     pub fn remove(&mut self, number: u64)
         ensures { self.new ≡ without_first (spec.is_waiting number) self.old }
     {
-        if let Some(place) = place_of(self.tags.as_slice(), number) {
+        if let Some(place) = place_among(self.tags.as_slice(), number) {
             self.tags.remove(place);
-            self.operations.remove(place);
-            self.counted = count_of(self.operations.as_slice());
+            self.counted -= take_out(&mut self.operations, place);
         }
     }
 

@@ -1,4 +1,4 @@
-use Rattle.std.proofs.Common.{◌≡◌, ◌++◌, map, take}
+use Rattle.std.proofs.Common.{◌≡◌, ◌++◌, take}
 use Rattle.pl_snap.proofs.rows.copy_rows.Given as goal
 
 abbrev pub invariant-loop-row : goal.invariant-loop-row

@@ -1,5 +1,5 @@
-use Rattle.std.proofs.Common.{◌≡◌, ◌++◌, map, take}
-use Rattle.pl_snap.specs.Turning.{turned_entry}
+use Rattle.std.proofs.Common.{◌≡◌, map, take}
+use Rattle.pl_turning.specs.Turning.{turned_entry}
 use Rattle.pl_snap.proofs.rows.turn_entries.Given as goal
 
 abbrev pub invariant-loop-entry : goal.invariant-loop-entry

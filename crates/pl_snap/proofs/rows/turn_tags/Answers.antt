@@ -1,4 +1,4 @@
-use Rattle.std.proofs.Common.{◌≡◌, ◌<◌, ◌++◌, ◌∷◌, [], length, arith, sym, ◌∙◌}
+use Rattle.std.proofs.Common.{◌<◌, ◌++◌, ◌∷◌, [], length, arith, sym, ◌∙◌}
 use Rattle.pl_snap.proofs.RowLemmas.{turned_tags-more}
 use Rattle.pl_snap.proofs.rows.turn_tags.Goals as goal
 

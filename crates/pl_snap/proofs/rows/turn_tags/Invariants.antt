@@ -1,4 +1,4 @@
-use Rattle.std.proofs.Common.{◌≡◌, ◌++◌, map, take}
+use Rattle.std.proofs.Common.{◌≡◌, take}
 use Rattle.pl_snap.specs.Rows.{turned_tags}
 use Rattle.pl_snap.proofs.rows.turn_tags.Given as goal
 

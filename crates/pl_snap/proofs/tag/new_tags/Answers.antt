@@ -1,4 +1,4 @@
-use Rattle.std.proofs.Common.{◌≡◌, ℕ, ◌<◌, ◌≤◌, ◌+◌, ◌^◌, ◌++◌, ◌∷◌, [], List, Option, Some, None, option_map, length, map, find, position, slice_get, true, arith, refl, ap, sym, subst, ◌∙◌, w64, Fits}
+use Rattle.std.proofs.Common.{◌+◌, ◌++◌, ◌∷◌, [], List, ap, sym, ◌∙◌}
 use Rattle.pl_snap.specs.declared.tag.Tag.{Tag}
 use Rattle.pl_snap.proofs.RowLemmas.{first_tags-more}
 use Rattle.pl_snap.proofs.tag.new_tags.Goals as goal

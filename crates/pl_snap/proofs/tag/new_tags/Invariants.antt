@@ -1,4 +1,4 @@
-use Rattle.std.proofs.Common.{◌≡◌, ◌++◌, map, take}
+use Rattle.std.proofs.Common.{◌≡◌}
 use Rattle.pl_snap.specs.Rows.{first_tags}
 use Rattle.pl_snap.proofs.tag.new_tags.Given as goal
 

@@ -1,4 +1,4 @@
-use Rattle.std.proofs.Common.{◌≡◌, ◌++◌, map, take}
+use Rattle.std.proofs.Common.{◌≡◌, ◌++◌, take}
 use Rattle.pl_snap.proofs.waiting.copy_pending.Given as goal
 
 abbrev pub invariant-loop-pending : goal.invariant-loop-pending

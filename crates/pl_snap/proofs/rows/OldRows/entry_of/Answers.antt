@@ -1,4 +1,4 @@
-use Rattle.std.proofs.Common.{◌≡◌, ℕ, ◌<◌, ◌≤◌, ◌+◌, ◌^◌, ◌++◌, ◌∷◌, [], List, Option, Some, None, option_map, length, map, find, position, slice_get, true, arith, refl, ap, sym, subst, ◌∙◌, w64, Fits}
+use Rattle.std.proofs.Common.{◌≡◌, List, Some, None, option_map, find, position, slice_get, ap, sym, ◌∙◌}
 use Rattle.pl_snap.specs.Model.{Row}
 use Rattle.pl_snap.specs.Rows.{has_number, is_row}
 use Rattle.pl_snap.proofs.RowLemmas.{found-row, missing-row}

@@ -1,4 +1,4 @@
-use Rattle.std.proofs.Common.{◌≡◌, ℕ, ◌<◌, ◌≤◌, ◌+◌, ◌^◌, ◌++◌, ◌∷◌, [], List, Option, Some, None, option_map, length, map, find, position, slice_get, true, arith, refl, ap, sym, subst, ◌∙◌, w64, Fits}
+use Rattle.std.proofs.Common.{length, ap, sym, ◌∙◌}
 use Rattle.pl_snap.proofs.RowLemmas.{length-rows}
 use Rattle.pl_snap.proofs.rows.OldRows.len.Goals as goal
 

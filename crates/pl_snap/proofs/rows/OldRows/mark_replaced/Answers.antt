@@ -1,9 +1,19 @@
-use Rattle.std.proofs.Common.{◌≡◌, ℕ, ◌<◌, ◌≤◌, ◌+◌, ◌^◌, ◌++◌, ◌∷◌, [], List, Option, Some, None, option_map, length, map, find, position, slice_get, true, arith, refl, ap, sym, subst, ◌∙◌, w64, Fits}
+use Rattle.std.proofs.Common.{◌≡◌, ℕ, ◌≤◌, ◌^◌, Some, None, find, position, refl, ap, sym, subst, ◌∙◌}
 use Rattle.pl_snap.specs.Lists.{changed_first}
-use Rattle.pl_snap.specs.Rows.{replaced, replaced_row, has_number, is_row, rows_in}
-use Rattle.pl_snap.proofs.ListLemmas.{changed-none}
+use Rattle.pl_snap.specs.Rows.{replaced, replaced_row, has_number, is_row, rows_in, set_end}
+use Rattle.pl_snap.proofs.ListLemmas.{changed-none, length-changed_at}
+use Rattle.pl_snap.proofs.Rising.{rise-stamped}
 use Rattle.pl_snap.proofs.RowLemmas.{changed-rows, missing-row}
 use Rattle.pl_snap.proofs.rows.OldRows.mark_replaced.Goals as goal
+
+pub invariant_of-self : goal.invariant_of-self
+invariant_of-self c =
+    let a = c.self.inside in
+    let number = c.args.number in
+    let at : position (has_number number) a.tags.items ≡ Some c.in-Some.place = ap (position (has_number number)) (sym c.as_slice.ensures.value) ∙ sym c.in-Some.ensures in
+    let holds = changed-rows a.set_at a.tags.items a.entries.items number c.in-Some.place c.args.new_stamp replaced (replaced_row c.args.new_stamp) (λ tag entry. refl) c.self.invariant.0 at in
+    let rise = rise-stamped 0 a.tags.items c.args.new_stamp c.in-Some.place ∙ c.self.invariant.2 in
+    rw (c.restamp.ensures, c.replace.ensures) (holds.fit, subst (λ (n : ℕ). set_end a.set_at n ≤ 2 ^ 62) (sym (length-changed_at replaced c.in-Some.place a.entries.items)) c.self.invariant.1, rise)
 
 pub returns-in-Some : goal.returns-in-Some
 returns-in-Some c =

@@ -1,7 +1,8 @@
-use Rattle.std.proofs.Common.{◌≡◌, ℕ, ◌<◌, ◌≤◌, ◌+◌, ◌^◌, ◌++◌, ◌∷◌, [], List, Option, Some, None, option_map, length, map, find, position, slice_get, true, false, arith, refl, ap, sym, subst, ◌∙◌, w64, Fits}
+use Rattle.std.proofs.Common.{◌≡◌, Some, None, find, position, ap, sym, ◌∙◌}
 use Rattle.pl_snap.specs.Lists.{without_first}
 use Rattle.pl_snap.specs.Rows.{has_number, is_row, rows_in}
 use Rattle.pl_snap.proofs.ListLemmas.{without-none}
+use Rattle.pl_snap.proofs.Rising.{rise-removed}
 use Rattle.pl_snap.proofs.RowLemmas.{missing-row, retired-rows}
 use Rattle.pl_snap.proofs.rows.OldRows.retire.Goals as goal
 
@@ -11,7 +12,7 @@ invariant_of-self c =
     let number = c.args.number in
     let at : position (has_number number) a.tags.items ≡ Some c.in-Some.place = ap (position (has_number number)) (sym c.as_slice.ensures.value) ∙ sym c.in-Some.ensures in
     let holds = retired-rows a.set_at a.tags.items a.entries.items number c.in-Some.place c.self.invariant.0 at in
-    rw (c.remove.ensures.items, c.remove-in-Some.ensures.items) (holds.fit, holds.below)
+    rw (c.remove.ensures.items, c.remove-in-Some.ensures.items) (holds.fit, holds.below, rise-removed 0 a.tags.items c.in-Some.place c.self.invariant.2)
 
 pub returns-in-Some : goal.returns-in-Some
 returns-in-Some c =

@@ -1,4 +1,4 @@
-use Rattle.std.proofs.Common.{◌≡◌, ℕ, ◌<◌, ◌≤◌, ◌+◌, ◌^◌, ◌++◌, ◌∷◌, [], List, Option, Some, None, option_map, length, map, find, position, slice_get, true, arith, refl, ap, sym, subst, ◌∙◌, w64, Fits}
+use Rattle.std.proofs.Common.{map, ap, sym, ◌∙◌}
 use Rattle.pl_snap.proofs.RowLemmas.{entries-rows}
 use Rattle.pl_snap.proofs.rows.OldRows.set.Goals as goal
 

@@ -1,8 +1,7 @@
-use Rattle.std.proofs.Common.{◌≡◌, ℕ, suc, ◌<◌, ◌≤◌, ◌+◌, ◌^◌, ◌++◌, ◌∷◌, [], List, Option, Some, None, option_map, length, map, find, position, slice_get, true, false, arith, refl, ap, sym, subst, ◌∙◌, w64, Fits}
-use Rattle.std.specs.Prelude.{bytes_eq}
-use Rattle.pl_state.specs.declared.entry.Entry.{Entry}
-use Rattle.pl_snap.specs.Rows.{is_row, tagged_rows, turned_rows, turned_tags}
-use Rattle.pl_snap.specs.Turning.{turned_entry}
+use Rattle.std.proofs.Common.{◌≡◌, suc, ◌∷◌, [], List, length, map, find, arith, refl, ap, sym, ◌∙◌}
+use Rattle.pl_snap.specs.Rows.{is_row, rise_from, tagged_rows, turned_rows, turned_tags}
+use Rattle.pl_turning.specs.Turning.{turned_entry}
+use Rattle.pl_snap.proofs.Rising.{rise-turned}
 use Rattle.pl_snap.proofs.RowLemmas.{length-rows, length-turned_tags, tagged-found, turned-claim, turned-rows}
 use Rattle.pl_snap.proofs.rows.OldRows.turned_by.Goals as goal
 
@@ -22,8 +21,18 @@ length-map : {X Y : Type 0} (f : X → Y) (xs : List X) → length (map f xs) �
 length-map f [] = refl
 length-map f (x ∷ xs) = ap suc (length-map f xs)
 
-pub new-requires : goal.new-requires
-new-requires c =
+pub new-requires-clause-rising : goal.new-requires-clause-rising
+new-requires-clause-rising c =
+    let a = c.self.inside in
+    let old = c.in-Some.row.now.urn in
+    let tagged = tagged-found a.set_at a.tags.items a.entries.items c.args.self.now c.args.claim c.in-Some.row.now c.self.invariant.0 c.self.view_is c.in-Some.ensures in
+    let same : length c.as_slice.result.now ≡ length c.as_slice-rows.result.now = ap length c.as_slice.ensures.value ∙ tagged.0 ∙ sym (ap length c.as_slice-rows.ensures.value) in
+    ap (rise_from 0) c.in_ok-tags.ensures
+    ∙ rise-turned 0 old c.args.first c.as_slice.result.now c.as_slice-rows.result.now same
+    ∙ ap (rise_from 0) c.as_slice.ensures.value ∙ c.self.invariant.2
+
+pub new-requires-clause-tagged : goal.new-requires-clause-tagged
+new-requires-clause-tagged c =
     let a = c.self.inside in
     let old = c.in-Some.row.now.urn in
     let tagged = tagged-found a.set_at a.tags.items a.entries.items c.args.self.now c.args.claim c.in-Some.row.now c.self.invariant.0 c.self.view_is c.in-Some.ensures in

@@ -1,4 +1,3 @@
-use Rattle.std.proofs.Common.{◌≡◌, ℕ, suc, ◌<◌, ◌≤◌, ◌+◌, ◌^◌, ◌++◌, ◌∷◌, [], List, Option, Some, None, option_map, length, true, false, arith, rules, refl, ap, sym, subst, ◌∙◌}
 use Rattle.pl_snap.specs.Rows.{is_waiting}
 use Rattle.pl_snap.proofs.Kept.{kept-cleared}
 use Rattle.pl_snap.proofs.snap.Snap.clear_base.Goals as goal
@@ -6,4 +5,4 @@ use Rattle.pl_snap.proofs.snap.Snap.clear_base.Goals as goal
 pub invariant_of-self : goal.invariant_of-self
 invariant_of-self c =
     let a = c.self.inside in
-    rw c.remove.ensures (kept-cleared a.fresh.items a.rows a.base_pending a.own_pending a.next_stamp (is_waiting c.args.at) c.self.invariant)
+    rw c.remove.ensures (kept-cleared a.fresh a.rows a.base_pending a.own_pending a.next_stamp (is_waiting c.args.at) c.self.invariant)

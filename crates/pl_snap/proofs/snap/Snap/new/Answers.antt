@@ -1,14 +1,18 @@
-use Rattle.std.proofs.Common.{◌≡◌, ℕ, suc, ◌<◌, ◌≤◌, ◌+◌, ◌^◌, ◌++◌, ◌∷◌, [], List, Option, Some, None, option_map, length, map, find, position, slice_get, count_by, true, false, arith, rules, refl, ap, sym, subst, ◌∙◌, w64, Fits}
+use Rattle.std.proofs.Common.{◌≡◌, ℕ, ◌≤◌, ◌+◌, ◌^◌, [], length, arith, ap, sym, ◌∙◌}
 use Rattle.pl_snap.specs.Lists.{zip_by}
-use Rattle.pl_snap.specs.Rows.{first_rows, first_tags, first_waiting, tagged_pending, tagged_rows}
+use Rattle.pl_snap.specs.Rows.{first_rows, first_tags, first_waiting, rise_from, tagged_pending, tagged_rows}
 use Rattle.std.proofs.lemmas.Grind.{common_steps}
 use Rattle.pl_snap.proofs.Kept.{kept-new}
+use Rattle.pl_snap.proofs.Rising.{rise-first_tags}
 use Rattle.pl_snap.proofs.RowLemmas.{length-first_tags, rows_first, waiting_first}
 use Rattle.pl_snap.proofs.snap.Snap.new.Goals as goal
 
-pub new-requires-2 : goal.new-requires-2
-new-requires-2 c =
+pub new-requires-2-clause-tagged : goal.new-requires-2-clause-tagged
+new-requires-2-clause-tagged c =
     ap length c.in-Ok.ensures ∙ length-first_tags 0 c.len-rows.result ∙ c.len-rows.ensures ∙ sym (ap length c.into_vec.ensures)
+
+pub new-requires-2-clause-rising : goal.new-requires-2-clause-rising
+new-requires-2-clause-rising c = ap (rise_from 0) c.in-Ok.ensures ∙ rise-first_tags 0 c.len-rows.result
 
 pub new-requires-3 : goal.new-requires-3
 new-requires-3 c =
@@ -27,7 +31,7 @@ returns-clause-made c =
     let own : c.new-6.result ≡ [] = c.new-6.ensures ∙ ap (λ tags. zip_by tagged_pending tags c.new-4.result.items) c.new-5.ensures.items in
     λ i. record {
       stack = base.stack;
-      fresh = c.new.ensures.items i;
+      fresh = c.new.ensures i;
       rows = rows i;
       base_pending = waiting i;
       own_pending = own i;
@@ -48,4 +52,4 @@ invariant_of-result c =
     let own : c.new-6.result ≡ [] = c.new-6.ensures ∙ ap (λ tags. zip_by tagged_pending tags c.new-4.result.items) c.new-5.ensures.items in
     let top : c.len-rows.result + c.len-operations.result ≤ 2 ^ 62 = grind (arith, common_steps) in
     let below : length base.entries + length base.pending ≤ 2 ^ 62 = omega (arith, top, c.len-rows.ensures, c.len-operations.ensures) in
-    rw (c.new.ensures.items, rows, waiting, own, c.len-rows.ensures, c.len-operations.ensures) (kept-new base.entries base.pending below)
+    rw (c.new.ensures, rows, waiting, own, c.len-rows.ensures, c.len-operations.ensures) (kept-new base.entries base.pending below)

@@ -1,4 +1,4 @@
-use Rattle.std.proofs.Common.{◌≡◌, ℕ, suc, ◌<◌, ◌≤◌, ◌+◌, ◌^◌, ◌++◌, ◌∷◌, [], List, Option, Some, None, option_map, length, true, false, arith, rules, refl, ap, sym, subst, ◌∙◌}
+use Rattle.std.proofs.Common.{◌≤◌, ◌+◌, ◌^◌, arith, refl}
 use Rattle.std.proofs.lemmas.Grind.{common_steps}
 use Rattle.pl_snap.specs.Calls.{is_goal, with_told}
 use Rattle.pl_snap.proofs.Kept.{kept-told}
@@ -8,4 +8,4 @@ pub invariant_of-self-in-Ok : goal.invariant_of-self-in-Ok
 invariant_of-self-in-Ok c =
     let a = c.self.inside in
     let below : a.next_stamp + 1 ≤ 2 ^ 62 = grind (arith, common_steps) in
-    rw c.in-Ok.ensures.put (kept-told a.fresh.items a.rows a.base_pending a.own_pending a.next_stamp (is_goal c.args.goal) (with_told a.next_stamp c.args.outputs) (λ one. refl) below c.self.invariant)
+    rw c.in-Ok.ensures.put (kept-told a.fresh a.rows a.base_pending a.own_pending a.next_stamp (is_goal c.args.goal) (with_told a.next_stamp c.args.outputs) (λ one. refl) below c.self.invariant)

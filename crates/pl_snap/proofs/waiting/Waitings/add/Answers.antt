@@ -1,6 +1,4 @@
-use Rattle.std.proofs.Common.{◌≡◌, ℕ, suc, ◌<◌, ◌≤◌, ◌+◌, ◌^◌, ◌++◌, ◌∷◌, [], List, Option, Some, None, option_map, length, map, find, position, slice_get, count_by, true, false, arith, rules, refl, ap, sym, subst, ◌∙◌, w64, Fits}
-use Rattle.pl_state.specs.declared.pending.Pending.{Pending}
-use Rattle.pl_snap.specs.declared.tag.Tag.{Tag}
+use Rattle.std.proofs.Common.{◌≡◌, ◌++◌, ◌∷◌, [], List, rules, ap, ◌∙◌}
 use Rattle.pl_snap.specs.Lists.{zip_by}
 use Rattle.pl_snap.specs.Model.{Waiting}
 use Rattle.pl_snap.specs.Rows.{tagged_pending}

@@ -1,4 +1,4 @@
-use Rattle.std.proofs.Common.{◌≡◌, ℕ, suc, ◌<◌, ◌≤◌, ◌+◌, ◌^◌, ◌++◌, ◌∷◌, [], List, Option, Some, None, option_map, length, map, find, position, slice_get, count_by, true, false, arith, rules, refl, ap, sym, subst, ◌∙◌, w64, Fits}
+use Rattle.std.proofs.Common.{count_by, ap, sym, ◌∙◌}
 use Rattle.pl_snap.specs.Rows.{is_counted}
 use Rattle.pl_snap.proofs.RowLemmas.{counted-waiting}
 use Rattle.pl_snap.proofs.waiting.Waitings.counted.Goals as goal

@@ -1,4 +1,4 @@
-use Rattle.std.proofs.Common.{◌≡◌, ℕ, suc, ◌<◌, ◌≤◌, ◌+◌, ◌^◌, ◌++◌, ◌∷◌, [], List, Option, Some, None, option_map, length, map, find, position, slice_get, count_by, true, false, arith, rules, refl, ap, sym, subst, ◌∙◌, w64, Fits}
+use Rattle.std.proofs.Common.{length, ap, sym, ◌∙◌}
 use Rattle.pl_snap.specs.Rows.{tagged_pending}
 use Rattle.pl_snap.proofs.ListLemmas.{length-zip}
 use Rattle.pl_snap.proofs.waiting.Waitings.len.Goals as goal

@@ -1,4 +1,4 @@
-use Rattle.std.proofs.Common.{◌≡◌, ℕ, suc, ◌<◌, ◌≤◌, ◌+◌, ◌^◌, ◌++◌, ◌∷◌, [], List, Option, Some, None, option_map, length, map, find, position, slice_get, count_by, true, false, arith, rules, refl, ap, sym, subst, ◌∙◌, w64, Fits}
+use Rattle.std.proofs.Common.{◌≡◌, ◌<◌, List, length, map, slice_get, arith, refl, ap, sym, ◌∙◌}
 use Rattle.std.proofs.lemmas.Option.{slice_get_read}
 use Rattle.pl_snap.specs.Model.{Waiting}
 use Rattle.pl_snap.specs.Rows.{tagged_pending}

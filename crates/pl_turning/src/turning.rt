@@ -1,7 +1,7 @@
 ghost use Rattle.std.specs.Prelude.{◌≡◌, ◌||◌, bytes_eq, IfOk, map, option_map};
 ghost use Rattle.std.specs.List.{list_any};
 ghost use Rattle.pl_lemmas.specs.Words.{some_passes};
-ghost use Rattle.pl_snap.specs.Turning.{is_urn, mentions, turned, turned_entry, turned_pairs, turned_reference};
+ghost use Rattle.pl_turning.specs.Turning.{is_urn, mentions, turned, turned_entry, turned_pairs, turned_reference};
 
 use pl_reference::{KeyedUrns, ProviderRef, Urns};
 use pl_state::Entry;

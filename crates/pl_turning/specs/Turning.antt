@@ -1,5 +1,5 @@
 -- How an alias turns a URN into another one, in an entry's own URN and in its references.
-use Rattle.std.specs.Prelude.{ℕ, Bool, ◌||◌, if◌then◌else◌, map, option_map, Option, List, bytes_eq}
+use Rattle.std.specs.Prelude.{ℕ, Bool, ◌||◌, if◌then◌else◌, map, option_map, List, bytes_eq}
 use Rattle.std.specs.List.{list_any}
 use Rattle.pl_reference.specs.declared.reference.ProviderRef.{ProviderRef}
 use Rattle.pl_lemmas.specs.Words.{some_passes}
