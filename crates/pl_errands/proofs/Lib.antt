@@ -5,4 +5,5 @@ pub mod RowSteps
 pub mod LaneSteps
 pub mod Steps
 pub mod Reading
+pub mod Looking
 pub mod Seen

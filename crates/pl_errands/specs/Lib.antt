@@ -2,4 +2,6 @@ pub mod Tickets
 pub mod Rows
 pub mod Lanes
 pub mod Agree
+pub mod SameOps
+pub mod Index
 pub mod Kept

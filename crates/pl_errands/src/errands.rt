@@ -4,14 +4,16 @@ ghost use Rattle.std.specs.Option.{option_copied};
 ghost use Rattle.pl_errands.specs.Tickets.{events_of, nothing_kept, with_answer, with_begun, with_loss};
 ghost use Rattle.pl_model.specs.Tickets as spec;
 
+use crate::index::{Index, first_place, has_op, keep_begun, keep_reply};
 use crate::lane::{
     Lane, add_to_lane, any_coming, any_configured, count_from, free_place, lane_at, take_from_lane,
 };
-use crate::row::{Replied, Row, Standing, close, first_reply, has_op, row_at, standing_of};
+use crate::row::{Replied, Row, Standing, close, replied_at, row_at, standing_of};
 use pl_events::{Op, Reply, Source};
 use pl_model::{Closed, Errand};
 use pl_value::OutOfMemory;
 use std::alloc::Global;
+use std::collections::HashMap;
 use std::marker::Model;
 
 /// The operations of a run by their tickets, and the lanes that they were sent to.
@@ -21,6 +23,8 @@ pub struct Errands {
     rows: Vec<Row>,
     /// In the order in which they came.
     replies: Vec<Replied>,
+    /// By operation.
+    index: Index,
     lost: Vec<u64>,
     /// By number.
     lanes: Vec<Lane>,
@@ -53,6 +57,7 @@ impl Errands {
         Errands {
             rows: Vec::new(alloc),
             replies: Vec::new(alloc),
+            index: HashMap::new(alloc),
             lost: Vec::new(alloc),
             lanes: Vec::new(alloc),
             open_tickets: 0,
@@ -70,6 +75,7 @@ impl Errands {
         self.replies.reserve(wanted - self.replies.len())?;
         self.lost.reserve(wanted - self.lost.len())?;
         self.lanes.reserve(1)?;
+        self.index.reserve(1)?;
         self.ready = true;
         Ok(())
     }
@@ -91,6 +97,7 @@ impl Errands {
         let standing = Standing::Open;
         self.rows.push(Row { errand, standing }).unwrap();
         add_to_lane(&mut self.lanes, lane, op);
+        keep_begun(&mut self.index, op);
         self.open_tickets += 1;
         self.ready = false;
         ticket
@@ -117,6 +124,7 @@ impl Errands {
         let errand = close(&mut self.rows, ticket, standing);
         take_from_lane(&mut self.lanes, errand.lane, standing);
         self.open_tickets -= 1;
+        keep_reply(&mut self.index, errand.op, self.replies.len());
         let closed = Closed {
             op: errand.op,
             reply,
@@ -176,18 +184,19 @@ impl Errands {
         self.open_tickets > 0
     }
 
-    /// Whether an operation was begun, in a time that grows with the number of tickets.
+    /// Whether an operation was begun.
     pub fn was_begun(&self, op: Op) -> bool
         ensures { result ≡ spec.was_begun (events_of self.now.tickets) op }
     {
-        has_op(self.rows.as_slice(), op)
+        has_op(&self.index, op)
     }
 
-    /// The first reply that came to an operation, in a time that grows with the number of replies.
+    /// The first reply that came to an operation.
     pub fn reply_to(&self, op: Op) -> Option<&Reply>
         ensures { option_copied result ≡ spec.reply_to self.now.tickets.answers op }
     {
-        match first_reply(self.replies.as_slice(), op) {
+        let place = first_place(&self.index, op)?;
+        match replied_at(self.replies.as_slice(), place) {
             None => None,
             Some(one) => Some(&one.closed.reply),
         }

@@ -2,6 +2,8 @@
 #![tactic(auto)]
 
 mod errands;
+mod index;
+mod key;
 mod lane;
 mod row;
 mod same;

@@ -1,13 +1,10 @@
-ghost use Rattle.std.specs.Prelude.{◌≡◌, Some, find, slice_get, slice_set, true};
-ghost use Rattle.std.specs.List.{list_any};
+ghost use Rattle.std.specs.Prelude.{◌≡◌, Some, slice_get, slice_set, true};
 ghost use Rattle.std.specs.Option.{option_copied};
 ghost use Rattle.std.specs.Vec.{vec_capacity};
 ghost use Rattle.pl_errands.specs.Rows as spec;
-ghost use Rattle.pl_model.specs.Tickets.{same_op as is_same_op};
 ghost use Rattle.pl_lemmas.specs.Words.{some_passes};
 
-use crate::same::same_op;
-use pl_events::{Op, Reply};
+use pl_events::Reply;
 use pl_model::{Closed, Errand};
 
 /// What became of an operation that was begun.
@@ -71,16 +68,9 @@ pub fn row_at(rows: &[Row], ticket: u64) -> Option<Row>
     rows.get(ticket as usize).copied()
 }
 
-/// Whether a row has this operation.
-pub fn has_op(rows: &[Row], op: Op) -> bool
-    ensures { result ≡ list_any (λ row. is_same_op row.errand.op op) rows.now }
+/// The reply at a place.
+pub fn replied_at(replies: &[Replied], place: usize) -> Option<&Replied>
+    ensures { option_copied result ≡ slice_get replies.now place }
 {
-    rows.iter().any(|row| same_op(row.errand.op, op))
-}
-
-/// The first reply to an operation.
-pub fn first_reply(replies: &[Replied], op: Op) -> Option<&Replied>
-    ensures { option_copied result ≡ find (λ one. is_same_op one.closed.op op) replies.now }
-{
-    replies.iter().find(|one| same_op(one.closed.op, op))
+    replies.get(place)
 }

@@ -1,17 +1,21 @@
-use Rattle.std.proofs.Common.{◌≡◌, ◌<◌, ◌≤◌, ◌+◌, ◌-◌, ◌∙◌, ◌++◌, ◌∷◌, [], List, length, sym, ap, subst, rules, arith}
+use Rattle.std.proofs.Common.{◌≡◌, ℕ, ◌<◌, ◌≤◌, ◌+◌, ◌-◌, ◌∙◌, ◌++◌, ◌∷◌, [], cond, List, Some, length, option_map, refl, sym, ap, subst, rules, arith}
 use Rattle.std.specs.List.{slice_set}
+use Rattle.std.specs.Option.{option_or}
 use Rattle.std.specs.Vec.{vec_capacity}
 use Rattle.pl_errands.specs.declared.lane.Lane.{Lane}
 use Rattle.pl_errands.specs.declared.row.Replied.{Replied}
 use Rattle.pl_errands.specs.declared.row.Row.{Row}
 use Rattle.pl_errands.specs.declared.row.Standing.{Standing}
 use Rattle.pl_errands.specs.Agree.{AreKept}
+use Rattle.pl_model.specs.Tickets.{same_op}
+use Rattle.pl_errands.specs.Index.{kept_of}
 use Rattle.pl_errands.specs.Kept.{HasRoom}
 use Rattle.pl_errands.specs.Lanes.{changed_at, closed_by}
 use Rattle.pl_errands.specs.Rows.{standing_of, tickets_by}
 use Rattle.pl_errands.specs.Tickets.{Kept, with_answer}
 use Rattle.pl_errands.proofs.LaneSteps.{changed-length}
 use Rattle.pl_errands.proofs.Lists.{set-length}
+use Rattle.pl_errands.proofs.Looking.{answered_index, get_set_here, set_index, index_of_same}
 use Rattle.pl_errands.proofs.RowSteps.{answered_tickets}
 use Rattle.pl_errands.proofs.Seen.{open_seen}
 use Rattle.pl_errands.proofs.Steps.{answered_kept, out_there, some_open}
@@ -70,6 +74,18 @@ invariant_of-self c =
     let P : List Row × List Replied × List Lane → Type 0 = λ t. AreKept t.0 t.1 c.self.inside.lost.items t.2 (c.self.inside.open_tickets - 1) in
     record {
       kept = subst P (λ i. (sym rows i, sym replies i, sym lanes i)) less;
+      looked_up = index_of_same c.keep_reply.new.index (sym rows) (sym replies)
+          (answered_index c.self.inside.index c.keep_reply.new.index
+          (slice_set c.self.inside.rows.items c.args.ticket (record { errand = c.close-errand.result; standing = standing_of c.args.reply }))
+          c.self.inside.replies.items
+          (set_index c.self.inside.index c.self.inside.rows.items c.self.inside.replies.items c.args.ticket c.close-errand.result (standing_of c.args.reply)
+          c.close-errand.ensures.was c.self.invariant.looked_up)
+          (record { ticket = c.args.ticket; closed = record { op = c.close-errand.result.op; reply = c.args.reply } })
+          c.args.ticket (record { errand = c.close-errand.result; standing = standing_of c.args.reply })
+          (get_set_here c.self.inside.rows.items c.args.ticket _ _ c.close-errand.ensures.was) refl
+          (λ about. c.keep_reply.ensures.kept about
+          ∙ ap (λ (n : ℕ). option_map (λ first. cond (same_op c.close-errand.result.op about) (option_or first (Some n)) first) (kept_of c.self.inside.index about))
+          (c.len.ensures ∙ c.self.inside.replies.ok.0)));
       replies_room = omega arith;
       lost_room = omega arith;
       room = λ ready.
@@ -78,7 +94,7 @@ invariant_of-self c =
           let more_replies : length c.self.inside.rows.items < vec_capacity c.self.inside.replies = was.replies in
           let more_lost : length c.self.inside.rows.items < vec_capacity c.self.inside.lost = was.lost in
           let more_lanes : length c.self.inside.lanes.items < vec_capacity c.self.inside.lanes = was.lanes in
-          record { rows = omega arith; replies = omega arith; lost = omega arith; lanes = omega arith };
+          record { rows = omega arith; replies = omega arith; lost = omega arith; lanes = omega arith; index = subst (λ (n : ℕ). 0 < n) (sym c.keep_reply.ensures.room) was.index };
     }
 
 pub returns : goal.returns

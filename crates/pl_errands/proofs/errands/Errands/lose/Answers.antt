@@ -5,12 +5,14 @@ use Rattle.pl_errands.specs.declared.lane.Lane.{Lane}
 use Rattle.pl_errands.specs.declared.row.Row.{Row}
 use Rattle.pl_errands.specs.declared.row.Standing.TheVariants as standing
 use Rattle.pl_errands.specs.Agree.{AreKept}
+use Rattle.pl_errands.specs.Index.{AgreeIndex}
 use Rattle.pl_errands.specs.Kept.{HasRoom}
 use Rattle.pl_errands.specs.Lanes.{changed_at, closed_by}
 use Rattle.pl_errands.specs.Rows.{tickets_by}
 use Rattle.pl_errands.specs.Tickets.{Kept, with_loss}
 use Rattle.pl_errands.proofs.LaneSteps.{changed-length}
 use Rattle.pl_errands.proofs.Lists.{set-length}
+use Rattle.pl_errands.proofs.Looking.{set_index}
 use Rattle.pl_errands.proofs.RowSteps.{lost_tickets}
 use Rattle.pl_errands.proofs.Seen.{open_seen}
 use Rattle.pl_errands.proofs.Steps.{lost_kept, out_there, some_open}
@@ -62,6 +64,9 @@ invariant_of-self c =
     let P : List Row × List ℕ × List Lane → Type 0 = λ t. AreKept t.0 c.self.inside.replies.items t.1 t.2 (c.self.inside.open_tickets - 1) in
     record {
       kept = subst P (λ i. (sym rows i, sym lost i, sym lanes i)) less;
+      looked_up = subst (λ (rows : List Row). AgreeIndex c.self.inside.index rows c.self.inside.replies.items) (sym rows)
+          (set_index c.self.inside.index c.self.inside.rows.items c.self.inside.replies.items c.args.ticket c.close-errand.result standing.Lost
+          c.close-errand.ensures.was c.self.invariant.looked_up);
       replies_room = omega arith;
       lost_room = omega arith;
       room = λ ready.
@@ -70,7 +75,7 @@ invariant_of-self c =
           let more_replies : length c.self.inside.rows.items < vec_capacity c.self.inside.replies = was.replies in
           let more_lost : length c.self.inside.rows.items < vec_capacity c.self.inside.lost = was.lost in
           let more_lanes : length c.self.inside.lanes.items < vec_capacity c.self.inside.lanes = was.lanes in
-          record { rows = omega arith; replies = omega arith; lost = omega arith; lanes = omega arith };
+          record { rows = omega arith; replies = omega arith; lost = omega arith; lanes = omega arith; index = was.index };
     }
 
 pub returns : goal.returns
