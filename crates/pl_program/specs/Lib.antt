@@ -1,0 +1,5 @@
+pub mod Begun
+pub mod Due
+pub mod Generated
+pub mod Heard
+pub mod Told
