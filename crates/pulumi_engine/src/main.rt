@@ -3,11 +3,17 @@
 #![tactic(auto)]
 
 #[cfg(test)]
+mod host_tests;
+mod host_words;
+#[cfg(test)]
 mod real_tests;
+mod refused;
 mod report;
 #[cfg(test)]
 mod tests;
+mod toy_words;
 
+use crate::refused::OUT_OF_MEMORY;
 use crate::report::{RunFacts, told};
 use pl_cli::file_of;
 use pl_decide::Outcome;
@@ -24,9 +30,6 @@ use std::{env, io};
 
 /// The status for words that are not UTF-8.
 const BAD_WORDS: u8 = 2;
-
-/// The status where no memory was found before the engine began.
-const OUT_OF_MEMORY: u8 = 7;
 
 type Real = World<FileStore, FileStore, Children, StandardOutput, RandomIds, FreeGate>;
 
@@ -107,11 +110,22 @@ fn run<R: Threads + Wait + Sync>(
     Ok(status)
 }
 
+/// The status where the first word makes the program a child of the engine: a host or the toy.
+fn child(rt: HostRuntime, words: &[String]) -> Option<u8> {
+    match host_words::run_host(rt, words) {
+        Some(status) => Some(status),
+        None => toy_words::toy(rt, words),
+    }
+}
+
 fn main(rt: HostRuntime) -> io::Result<ExitCode> {
     let Some(words) = words_of(&rt) else {
         let _ = rt.eprintln("a word of the command line is not UTF-8");
         return Ok(ExitCode::from(BAD_WORDS));
     };
+    if let Some(status) = child(rt, words.as_slice()) {
+        return Ok(ExitCode::from(status));
+    }
     match run(&rt, rt, RandomIds::new(&rt)?, words.as_slice()) {
         Ok(status) => Ok(ExitCode::from(status)),
         Err(OutOfMemory) => {
