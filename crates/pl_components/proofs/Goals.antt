@@ -14,7 +14,7 @@ use Rattle.pl_state.specs.declared.goal.Goal.{Goal}
 use Rattle.pl_state.specs.declared.goal.Registration.{Registration}
 use Rattle.pl_decide.specs.declared.decision.Decision.TheVariants.{Create}
 use Rattle.pl_model.specs.declared.decided.Decided.{Decided}
-use Rattle.pl_model.specs.Decisions.{decided_after, decided_at, decided_of, turn_of}
+use Rattle.pl_model.specs.Decisions.{decided_after, decided_of}
 use Rattle.pl_components.specs.Run.{Fixed}
 use Rattle.pl_components.specs.Requests.{goal_for, has_goal, has_parent, is_acceptable}
 use Rattle.pl_components.specs.Whole.{whole}
@@ -33,10 +33,6 @@ plain_decided = record { claim = None; inputs = []; checked = []; decision = Cre
 
 abbrev pub decided_for : Goal → Decided
 decided_for goal = plain_decided
-
-pub decided_plain : (run : Fixed) (parallel : ℕ) (urn kind : List ℕ) (parent : Option (List ℕ)) (earlier : List Goal) (before : List Decided)
-    → is_of_provider urn ≡ false → decided_at (turn_of (whole run parallel) [] earlier before (plain_goal urn kind parent)) ≡ Some plain_decided
-decided_plain run parallel urn kind parent earlier before other = rw other refl
 
 decided_more : (run : Fixed) (parallel : ℕ) (urn kind : List ℕ) (parent : Option (List ℕ)) (earlier : List Goal)
     → is_of_provider urn ≡ false

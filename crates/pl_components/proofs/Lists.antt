@@ -103,16 +103,9 @@ pub or_true : (a : Bool) → (a || true) ≡ true
 or_true true = refl
 or_true false = refl
 
-pub or_false : (a : Bool) → (a || false) ≡ a
-or_false true = refl
-or_false false = refl
-
 pub not_true : (a : Bool) → not a ≡ true → a ≡ false
 not_true true h = absurd cc
 not_true false h = refl
-
-pub false_not_true : {X : Type 0} (a : Bool) → a ≡ true → a ≡ false → X
-false_not_true a h k = absurd (let e : true ≡ false = sym h ∙ k in cc)
 
 -- a number is among those below a count
 pub range_has : (p : ℕ → Bool) (a n k : ℕ) → a ≤ k → k < a + n → p k ≡ true → list_any p (range_with_len a n) ≡ true

@@ -31,7 +31,7 @@ use Rattle.pl_model.specs.Known.{Known, asked_at, next_turn}
 use Rattle.pl_model.specs.Known as known_specs
 use Rattle.pl_model.specs.Entries as entries
 use Rattle.pl_model.specs.State.{pending_of}
-use Rattle.pl_model.specs.Due.{added_by, claim_leaves, count_of, due_work, for_decided, goal_numbers, has_open, is_asked, is_due, is_due_on, is_invoke, is_next_lane, is_over_limit, is_ready, is_lane_of, is_ready_on, is_recorded_about, is_removable, is_settled_request, is_wanted_op, lane_numbers, operations_of, over_limit, pending_numbers, passes_limit, request_numbers, sends_goal, source_of_op, works_of}
+use Rattle.pl_model.specs.Due.{added_by, claim_leaves, count_of, due_work, for_decided, goal_numbers, has_open, is_asked, is_due, is_invoke, is_next_lane, is_over_limit, is_ready, is_lane_of, is_ready_on, is_removable, is_settled_request, is_wanted_op, lane_numbers, operations_of, over_limit, pending_numbers, passes_limit, request_numbers, sends_goal, source_of_op, works_of}
 use Rattle.pl_model.specs.Due as due
 use Rattle.pl_model.specs.Rows.{has_dependents, is_doomed, is_left, is_sent, is_taken_out, is_taken_over, is_target, row_numbers, takes_along, was_removed}
 use Rattle.pl_model.specs.Posts.{answer_for, answer_or, registered}
@@ -41,7 +41,7 @@ use Rattle.pl_components.specs.Run.{Fixed}
 use Rattle.pl_components.specs.Problems.{has_problem}
 use Rattle.pl_components.specs.Requests.{goal_at, goals_of, is_waiting, made_by, made_for, waiting_of}
 use Rattle.pl_components.specs.Entries.{entry_of, is_unrecorded, new_entries, unrecorded_of}
-use Rattle.pl_components.specs.Due.{NothingDue, has_room, is_keep_due, is_placed, is_post_due, is_too_long, recorded_goal, result_of}
+use Rattle.pl_components.specs.Due.{NothingDue, has_room, is_keep_due, is_placed, is_post_due, recorded_goal, result_of}
 use Rattle.pl_components.specs.Due as components
 use Rattle.pl_components.specs.Whole.{IsComponentRun, whole}
 use Rattle.pl_components.proofs.Lists.{Each, and_false, and_left, and_true, filter-none, list_any-none, or_true, passing_kept, range_has}
@@ -282,14 +282,7 @@ module _ (run : Fixed) (parallel : ℕ) (spelling : Spelling) (past : List Event
   no_ready (op.Read about) lane = unwanted (op.Read about) (is_lane_of known (op.Read about) lane)
   no_ready (op.Invoke n) lane = unwanted (op.Invoke n) (is_lane_of known (op.Invoke n) lane)
 
-  -- no operation is due, on any lane
-  pub no_due_on : (about : Op) (lane : ℕ) → is_due_on known about lane ≡ false
-  no_due_on about lane = ap (λ b. b && not (passes_limit known (to_send about))) (no_ready about lane)
-
   -- ---- work
-
-  nothing_ready : Work → Type 0
-  nothing_ready work = is_ready known work ≡ false
 
   no_send : (about : Op) → is_ready known (to_send about) ≡ false
   no_send about = list_any-none (λ (lane : ℕ). is_ready_on known about lane) (no_ready about) (lane_numbers known)

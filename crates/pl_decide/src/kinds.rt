@@ -1,6 +1,6 @@
 ghost use Rattle.std.specs.Prelude.{◌≡◌};
 ghost use Rattle.std.specs.Option.{option_copied};
-ghost use Rattle.pl_state.specs.Kinds.{is_component, is_default_name, is_importing_goal, is_managed, is_of_default, is_of_provider, is_provided, is_reading_goal, kin_of};
+ghost use Rattle.pl_state.specs.Kinds.{is_component, is_default_name, is_importing_goal, is_managed, is_of_default, is_of_provider, is_provided, is_provided_row, is_reading_goal, kin_of};
 
 use pl_state::{Entry, Goal};
 use pl_urn::{Urn, is_provider_type};
@@ -37,6 +37,13 @@ pub fn is_provided(goal: &Goal) -> bool
     ensures { result ≡ is_provided goal.now }
 {
     goal.custom && !is_of_provider(&goal.urn)
+}
+
+/// Whether a row has a provider: it is custom and is no provider itself.
+pub fn is_provided_row(row: &Entry) -> bool
+    ensures { result ≡ is_provided_row row.now }
+{
+    row.custom && !is_of_provider(&row.urn)
 }
 
 /// Whether the thing of a goal is only read.

@@ -12,7 +12,11 @@ mod table;
 mod vectors;
 
 pub use decision::{Decision, ProviderChange};
-pub use limited::{decide, is_delete_first, is_replacement, own_refusal};
+pub use kinds::{
+    is_component, is_importing, is_of_default, is_of_provider, is_provided, is_provided_row,
+    is_reading, kin_of,
+};
+pub use limited::{decide, is_create_first, is_delete_first, is_replacement, own_refusal};
 pub use limits::{Limits, PlanLines};
 pub use outcome::Outcome;
 pub use permitted::{

@@ -1,6 +1,6 @@
 ghost use Rattle.std.specs.Prelude.{◌≡◌, if◌then◌else◌, IfOk, None, not, option_map};
 ghost use Rattle.std.specs.Option.{option_copied};
-ghost use Rattle.pl_decide.specs.Limited.{decide_limited, is_delete_first, is_replacement, limited, own_refusal, permits_claim};
+ghost use Rattle.pl_decide.specs.Limited.{decide_limited, is_create_first, is_delete_first, is_replacement, limited, own_refusal, permits_claim};
 
 use crate::decision::{Decision, ProviderChange};
 use crate::limits::Limits;
@@ -50,6 +50,13 @@ pub fn is_delete_first(decision: &Decision) -> bool
     ensures { result ≡ is_delete_first decision.now }
 {
     matches!(decision, Decision::Replace { first: false })
+}
+
+/// Whether the new thing is made before the old one is deleted.
+pub fn is_create_first(decision: &Decision) -> bool
+    ensures { result ≡ is_create_first decision.now }
+{
+    matches!(decision, Decision::Replace { first: true })
 }
 
 /// Whether a new thing is made in place of the old one.

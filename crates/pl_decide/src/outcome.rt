@@ -14,7 +14,7 @@ pub enum Outcome {
     TooManyResources,
     /// The words are no command; `place` is the first word that may not stand where it does.
     BadWords { place: u64 },
-    /// The store has a content, which this version does not read yet.
+    /// The state has resources, and the command is one that begins over none yet. Nothing was started.
     NotBuilt,
     /// The store's content is no checkpoint.
     BadCheckpoint(BadCheckpoint),

@@ -3,8 +3,8 @@ use pl_events::Event;
 use pl_state::Snapshot;
 use pl_world::{Pipe, Spawner};
 
-/// The outside of a run. `side` is the file of a plan or of an import; the commands that are built leave
-/// it, the sink, the ids and the gate untouched.
+/// The outside of a run. `side` is the file of a plan or of an import. The commands that are built leave it, the ids
+/// and the gate untouched, and only those of `state` write to the sink.
 #[derive(Drop)]
 pub struct World<S: Drop, B: Drop, P: Drop, W: Drop, I: Drop, G: Drop> {
     pub store: S,

@@ -1,11 +1,11 @@
-mod Plain
-mod PlainTickets
-mod Alike
+pub mod Plain
+pub mod PlainTickets
+pub mod Alike
 mod Settling
 mod Unchanged
 mod Steps
 mod Reading
-mod Lanes
+pub mod Lanes
 mod Whole
 mod Ready
 mod Works

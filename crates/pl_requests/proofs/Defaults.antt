@@ -22,15 +22,6 @@ pub allowed_is : (run : Fixed) (provided : List ℕ) (version : Option (List ℕ
 allowed_is run provided version urn e =
     allowed_by (is_bad_default provided version) (default_provider_urn run.stack run.project provided version) urn e
 
-refused_by : (bad : Bool) (made : List ℕ) → (if bad then None else Some made) ≡ None → bad ≡ false → ⊥
-refused_by true made e fine = cc
-refused_by false made e fine = none-some made (sym e)
-
-pub refused_is : (run : Fixed) (provided : List ℕ) (version : Option (List ℕ)) → allowed_default run provided version ≡ None
-    → is_bad_default provided version ≡ false → ⊥
-refused_is run provided version e fine =
-    refused_by (is_bad_default provided version) (default_provider_urn run.stack run.project provided version) e fine
-
 -- ---- its goal and its number
 
 module _ (known : Known) (provided : List ℕ) (version : Option (List ℕ)) where

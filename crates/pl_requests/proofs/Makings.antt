@@ -1,5 +1,5 @@
 -- What each kind of request makes, where it is not refused.
-use Rattle.std.proofs.Common.{◌≡◌, ℕ, Bool, true, false, not, ◌&&◌, List, ◌∷◌, length, Option, Some, None, Ok, Err, if◌then◌else◌, option_map, refl, sym, ap, subst, ◌∙◌}
+use Rattle.std.proofs.Common.{◌≡◌, ℕ, Bool, true, false, not, ◌&&◌, List, ◌∷◌, length, Option, Some, None, Ok, if◌then◌else◌, option_map, refl, sym, ap, subst, ◌∙◌}
 use Rattle.std.specs.Str.{bytes_eq}
 use Rattle.std.proofs.lemmas.Option.{none-some}
 use Rattle.pl_lemmas.proofs.Lists.{same_bytes}
@@ -8,8 +8,7 @@ use Rattle.pl_lemmas.proofs.Truth.{and_fails}
 use Rattle.pl_decide.specs.declared.problem.Problem.{Problem}
 use Rattle.pl_decide.specs.declared.problem.Problem.TheVariants.{BadOption}
 use Rattle.pl_events.specs.declared.event.Request.{Request}
-use Rattle.pl_events.specs.declared.event.Request.TheVariants.{Register}
-use Rattle.pl_options.specs.GoalOf.{GoalResult, bad_path, bad_reference, bad_urn, bad_version, given, goal_of, is_version, option_fault, plain_goal_of, unless, unless_fault}
+use Rattle.pl_options.specs.GoalOf.{bad_path, bad_reference, bad_urn, bad_version, given, goal_of, is_version, option_fault, plain_goal_of, unless, unless_fault}
 use Rattle.pl_options.proofs.OnLiterals.{options_on_literals}
 use Rattle.pl_state.specs.declared.fault.OptionFault.{OptionFault}
 use Rattle.pl_state.specs.declared.fault.OptionFault.TheVariants as fault
@@ -21,10 +20,10 @@ use Rattle.pl_model.specs.declared.fixed.Fixed.{Fixed}
 use Rattle.pl_model.specs.declared.heard.Fate.{Fate}
 use Rattle.pl_model.specs.declared.heard.Fate.TheVariants as fate
 use Rattle.pl_model.specs.Known.{Known, has_problem}
-use Rattle.pl_model.specs.Requests.{about_of, default_urn, fate_by, fate_of, goal_refusal, goals_made, invoke_refusal, invoked_provider, invoked_version, is_bad_default, named_provider, newest_number, refusal_of, refused_if, result_refusal, token_package, unless_unknown, uses_default, with_default, with_goal, with_invoked, with_provider, with_result}
+use Rattle.pl_model.specs.Requests.{about_of, default_urn, fate_by, fate_of, goal_refusal, goals_made, invoke_refusal, invoked_provider, is_bad_default, named_provider, newest_number, refusal_of, refused_if, token_package, uses_default, with_default, with_goal, with_invoked, with_provider}
 use Rattle.pl_requests.specs.declared.default.DefaultProvider.{DefaultProvider}
 use Rattle.pl_requests.specs.declared.making.Making.{Making}
-use Rattle.pl_requests.specs.Column.{Change, IsChangeBy, IsTold, IsToldAs, accepted_with, unmade}
+use Rattle.pl_requests.specs.Column.{Change, IsChangeBy, IsTold, IsToldAs, accepted_with}
 use Rattle.pl_requests.specs.Ids.{known_over}
 use Rattle.pl_requests.specs.Making.{Makes, MakesFor, Provides, own_making}
 use Rattle.pl_requests.specs.Reading.{is_known_version}
@@ -76,17 +75,6 @@ made_version stack project told goal (Some found) is made = absurd cc
 pub goal_version : (stack project : List ℕ) (told : Registration) (goal : Goal) → goal_of stack project told ≡ Ok goal → is_known_version goal.version ≡ true
 goal_version stack project told goal made = made_version stack project told goal (option_fault told) refl made
 
-unless_is_known : (version : Option (List ℕ)) → is_known_version (unless_unknown version) ≡ true
-unless_is_known None = refl
-unless_is_known (Some text) = by (bytes_eq text unknown_text) refl
-  where
-    by : (same : Bool) → bytes_eq text unknown_text ≡ same → is_known_version (if same then None else Some text) ≡ true
-    by true is = refl
-    by false is = ap not is
-
-pub invoked_is_known : (version : Option (List ℕ)) → is_known_version (invoked_version version) ≡ true
-invoked_is_known version = unless_is_known (given version)
-
 -- ---- registrations
 
 not_refused : (refused : Bool) (problem : Problem) → refused_if refused problem ≡ None → refused ≡ false
@@ -120,28 +108,6 @@ module _ (known : Known) (told : Registration) (goal : Goal) where
         about = ap (λ (goals : List Goal). Some (length goals)) given_by.goals;
       })
 
-  pub makes_by_name : (provider : Option ℕ) → uses_default told goal ≡ false → provider ≡ named_provider known (given told.provider)
-      → Makes known (with_goal known told goal) (newest_number (with_goal known told goal)) (own_making known.goals None goal provider)
-  makes_by_name provider names same =
-      subst (λ (goals : List Goal). Makes known goals (newest_number goals) (own_making known.goals None goal provider))
-      (sym (if_default false names))
-      (record { goals = λ i. record goal { provider = same i } ∷ known.goals; about = refl })
-
-module _ (run : Fixed) (goals : List Goal) (n : ℕ) (told : Registration) (making : Making) where
-  pub makes_registered : (goal : Goal) → goal_of run.stack run.project told ≡ Ok goal
-      → ((known : Known) → goal_refusal (known_over run goals known) told goal ≡ None
-      → Makes (known_over run goals known) (with_goal (known_over run goals known) told goal)
-      (newest_number (with_goal (known_over run goals known) told goal)) making)
-      → MakesFor run goals (Register n told) making
-  makes_registered goal made makes known none =
-      subst (λ (result : GoalResult). Makes (known_over run goals known) (with_result (known_over run goals known) told result)
-      (newest_number (with_result (known_over run goals known) told result)) making) (sym made)
-      (makes known (sym (ap (result_refusal (known_over run goals known) told) made) ∙ none))
-
-  pub makes_refused : (found : OptionFault) → goal_of run.stack run.project told ≡ Err found → MakesFor run goals (Register n told) making
-  makes_refused found refused known none =
-      absurd (none-some (BadOption found) (sym none ∙ ap (result_refusal (known_over run goals known) told) refused))
-
 -- ---- invokes
 
 module _ (known : Known) (token : List ℕ) (version : Option (List ℕ)) where
@@ -156,14 +122,6 @@ module _ (known : Known) (token : List ℕ) (version : Option (List ℕ)) where
       record { goals = given_by.goals; about = given_by.number }
   makes_invoked (Some text) provider is provides none = absurd (none-some text (sym is))
 
-  pub makes_named : (named : Option (List ℕ)) (text : List ℕ) (about : Option ℕ) → named ≡ Some text → about ≡ named_provider known (Some text)
-      → Makes known (with_invoked known token named version) (invoked_provider known token named version)
-      (record { default = None; own = None; about = about })
-  makes_named None text about is same = absurd (none-some text is)
-  makes_named (Some other) text about is same =
-      let about_is : about ≡ named_provider known (Some other) = same ∙ ap (named_provider known) (sym is) in
-      record { goals = refl; about = about_is }
-
 -- ---- changes
 
 pub accepts : (run : Fixed) (goals : List Goal) (request : Request) (making : Making) → MakesFor run goals request making
@@ -172,12 +130,6 @@ accepts run goals request making makes known allowed =
     let made : Makes (known_over run goals known) (goals_made (known_over run goals known) request)
     (about_of (known_over run goals known) request) making = makes known (allowed refl) in
     record { goals = made.goals; heard = λ i. record { request = request; fate = fate.Accepted; about = made.about i } }
-
-pub makes_nothing : (run : Fixed) (goals : List Goal) (request : Request) (own : Fate) → (own ≡ fate.Accepted → ⊥)
-    → IsChangeBy run goals request own (unmade request own)
-makes_nothing run goals request fate.Halted other known allowed = record { goals = refl; heard = refl }
-makes_nothing run goals request (fate.Refused problem) other known allowed = record { goals = refl; heard = refl }
-makes_nothing run goals request fate.Accepted other known allowed = absurd (other refl)
 
 accepted_by : (halts : Bool) (refusal : Option Problem) → (if halts then fate.Halted else fate_by refusal) ≡ fate.Accepted → refusal ≡ None
 accepted_by true refusal e = absurd cc
