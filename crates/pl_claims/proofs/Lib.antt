@@ -3,5 +3,8 @@ pub mod Places
 pub mod Sound
 pub mod Chains
 pub mod Marking
+pub mod Freeing
 pub mod Steps
 pub mod Seen
+pub mod Settling
+pub mod Claiming

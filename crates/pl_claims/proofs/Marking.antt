@@ -3,19 +3,19 @@ use Rattle.std.proofs.Common.{◌≡◌, ◌<◌, ◌≤◌, ◌+◌, ℕ, zero,
 use Rattle.std.proofs.lemmas.List.{get_or-replicate, length-replicate}
 use Rattle.std.proofs.lemmas.List.Folds.{list_any_more}
 use Rattle.std.proofs.lemmas.Option.{slice_get_cases}
-use Rattle.std.proofs.Math.Bool.{and-false, and_comm, or-true, or_comm}
+use Rattle.std.proofs.Math.Bool.{and-false, and_comm, or-true}
 use Rattle.std.specs.List.{list_any, slice_get}
 use Rattle.std.specs.Option.{IfSome}
 use Rattle.pl_lemmas.specs.Words.{has_number, is_row, some_passes}
 use Rattle.pl_lemmas.proofs.Numbers.{equal_numbers, same_number}
-use Rattle.pl_lemmas.proofs.Truth.{or_either}
+use Rattle.pl_lemmas.proofs.Options.{or_none}
 use Rattle.pl_decide.specs.Limited.{is_delete_first}
 use Rattle.pl_model.specs.declared.decided.Decided.{Decided}
 use Rattle.pl_model.specs.declared.fixed.Fixed.{Fixed}
 use Rattle.pl_model.specs.Run.{rows_of}
-use Rattle.pl_model.specs.Claims.{chain_of_goal, claimer_of, is_chained}
+use Rattle.pl_model.specs.Claims.{chain_of_goal, claimer_of}
 use Rattle.pl_claims.specs.declared.mark.Mark.{Mark}
-use Rattle.pl_claims.specs.Marks.{AreMarked, chained_by, claimed_by, joined_by, no_mark}
+use Rattle.pl_claims.specs.Marks.{AreMarked, chained_by, chained_with, chained_without, claimed_by, first_chained, joined_by, left_by, no_mark, unchained_by, unmarked}
 use Rattle.pl_claims.proofs.Chains.{chain_within}
 
 -- ---- nothing decided
@@ -43,30 +43,58 @@ pub none_marked : (run : Fixed) → AreMarked run [] (replicate (length (rows_of
 none_marked run = record {
   count = length-replicate (length (rows_of run)) no_mark;
   claimers = none_told {X = Option ℕ} (option_and_then (λ (mark : Mark). mark.claimer)) None refl refl (length (rows_of run));
-  chains = none_told {X = Bool} (some_passes (λ (mark : Mark). mark.chained)) false refl refl (length (rows_of run));
+  chains = none_told {X = Option ℕ} (option_and_then (λ (mark : Mark). mark.chained)) None refl refl (length (rows_of run));
   deletions = none_told {X = Bool} (some_passes (λ (mark : Mark). mark.deleted_first)) false refl refl (length (rows_of run));
 }
 
 -- ---- the rows of a chain
 
-pub chain_start : (marks : List Mark) (place : ℕ) → slice_get marks place ≡ option_map (chained_by [] place) (slice_get marks place)
-chain_start marks place = by (slice_get marks place)
-  where
-    by : (o : Option Mark) → o ≡ option_map (chained_by [] place) o
-    by None = refl
-    by (Some mark) = refl
+with_twice : (marked : Option ℕ) (a b : Bool) (goal : ℕ) → chained_with (chained_with marked a goal) b goal ≡ chained_with marked (a || b) goal
+with_twice (Some first) a b goal = refl
+with_twice None true b goal = refl
+with_twice None false b goal = refl
 
--- one row of the chain more is marked
-pub chain_more : (chain : List ℕ) (i : ℕ) → i < length chain → (row : ℕ) (o : Option Mark)
-    → option_map (joined_by (get_or chain i 0) row) (option_map (chained_by (take i chain) row) o) ≡ option_map (chained_by (take (i + 1) chain) row) o
-chain_more chain i inside row None = refl
-chain_more chain i inside row (Some mark) =
-    let numbers : has_number (take (i + 1) chain) row ≡ (has_number (take i chain) row || (get_or chain i 0 == row)) =
-    list_any_more (λ (other : ℕ). other == row) chain i 0 inside in
-    let same : ((get_or chain i 0 == row) || (has_number (take i chain) row || mark.chained)) ≡ (has_number (take (i + 1) chain) row || mark.chained) =
-    or_either (get_or chain i 0 == row) (has_number (take i chain) row) mark.chained
-    ∙ ap (λ (b : Bool). b || mark.chained) (or_comm (get_or chain i 0 == row) (has_number (take i chain) row) ∙ sym numbers) in
-    λ i. Some (record { claimer = mark.claimer; chained = same i; deleted_first = mark.deleted_first })
+unmarked_twice : (marked : Option ℕ) (goal : ℕ) → unmarked (unmarked marked goal) goal ≡ unmarked marked goal
+unmarked_twice None goal = refl
+unmarked_twice (Some first) goal = by (first == goal) refl
+  where
+    by : (b : Bool) → (first == goal) ≡ b → unmarked (unmarked (Some first) goal) goal ≡ unmarked (Some first) goal
+    by true is =
+        ap (λ (t : Bool). unmarked (if t then None else Some first) goal) is
+        ∙ sym (ap (λ (t : Bool). if t then None else Some first) is)
+    by false is = ap (λ (t : Bool). unmarked (if t then None else Some first) goal) is
+
+without_twice : (marked : Option ℕ) (a b : Bool) (goal : ℕ)
+    → chained_without (chained_without marked a goal) b goal ≡ chained_without marked (a || b) goal
+without_twice marked true true goal = unmarked_twice marked goal
+without_twice marked true false goal = refl
+without_twice marked false b goal = refl
+
+module _ (goal : ℕ) (chain : List ℕ) (i : ℕ) (inside : i < length chain) (row : ℕ) where
+  one_more : (has_number (take i chain) row || (get_or chain i 0 == row)) ≡ has_number (take (i + 1) chain) row
+  one_more = sym (list_any_more (λ (other : ℕ). other == row) chain i 0 inside)
+
+  -- one row of the chain more is marked
+  pub chain_more : (o : Option Mark)
+      → option_map (joined_by goal (get_or chain i 0) row) (option_map (chained_by goal (take i chain) row) o) ≡ option_map (chained_by goal (take (i + 1) chain) row) o
+  chain_more None = refl
+  chain_more (Some mark) =
+      let same : chained_with (chained_with mark.chained (has_number (take i chain) row) goal) (get_or chain i 0 == row) goal
+      ≡ chained_with mark.chained (has_number (take (i + 1) chain) row) goal =
+      with_twice mark.chained (has_number (take i chain) row) (get_or chain i 0 == row) goal
+      ∙ ap (λ (b : Bool). chained_with mark.chained b goal) one_more in
+      λ k. Some (record { claimer = mark.claimer; chained = same k; deleted_first = mark.deleted_first })
+
+  -- one row of the chain more is free
+  pub chain_less : (o : Option Mark)
+      → option_map (left_by goal (get_or chain i 0) row) (option_map (unchained_by goal (take i chain) row) o) ≡ option_map (unchained_by goal (take (i + 1) chain) row) o
+  chain_less None = refl
+  chain_less (Some mark) =
+      let same : chained_without (chained_without mark.chained (has_number (take i chain) row) goal) (get_or chain i 0 == row) goal
+      ≡ chained_without mark.chained (has_number (take (i + 1) chain) row) goal =
+      without_twice mark.chained (has_number (take i chain) row) (get_or chain i 0 == row) goal
+      ∙ ap (λ (b : Bool). chained_without mark.chained b goal) one_more in
+      λ k. Some (record { claimer = mark.claimer; chained = same k; deleted_first = mark.deleted_first })
 
 -- each number of a list is in it
 pub number_there : (numbers : List ℕ) (i : ℕ) → i < length numbers → has_number numbers (get_or numbers i 0) ≡ true
@@ -81,7 +109,7 @@ module _ (run : Fixed) (before : List Decided) (marks : List Mark) (one : Decide
     (claim : IfSome one.claim (λ row. row < length (rows_of run))) where
   -- what a decision changes of a row's mark
   abbrev pub decided_mark : ℕ → Mark → Mark
-  decided_mark row mark = chained_by (chain_of_goal run one) row (claimed_by (length before) one.claim (is_delete_first one.decision) row mark)
+  decided_mark row mark = chained_by (length before) (chain_of_goal run one) row (claimed_by (length before) one.claim (is_delete_first one.decision) row mark)
 
   claim_within : (row : ℕ) → is_row one.claim row ≡ true → row < length (rows_of run)
   claim_within row h = by one.claim claim h
@@ -115,17 +143,20 @@ module _ (run : Fixed) (before : List Decided) (marks : List Mark) (one : Decide
           ap (λ (o : Option ℕ). if is_row one.claim row then Some (length before) else o)
           (agree.claimers row ∙ ap (option_and_then (λ mark. mark.claimer)) is)
 
-  chains : (row : ℕ) → is_chained run (one ∷ before) row ≡ some_passes (λ mark. mark.chained) (option_map (decided_mark row) (slice_get marks row))
+  chains : (row : ℕ) → first_chained run (one ∷ before) row ≡ option_and_then (λ mark. mark.chained) (option_map (decided_mark row) (slice_get marks row))
   chains row = by (slice_get marks row) refl
     where
       by : (o : Option Mark) → slice_get marks row ≡ o
-          → (has_number (chain_of_goal run one) row || is_chained run before row)
-          ≡ some_passes (λ mark. mark.chained) (option_map (decided_mark row) o)
+          → chained_with (first_chained run before row) (has_number (chain_of_goal run one) row) (length before)
+          ≡ option_and_then (λ mark. mark.chained) (option_map (decided_mark row) o)
       by None is =
-          ap (λ (b : Bool). b || is_chained run before row) (past (has_number (chain_of_goal run one) row) row is (chain_within run one row))
-          ∙ agree.chains row ∙ ap (some_passes (λ mark. mark.chained)) is
+          ap (λ (b : Bool). chained_with (first_chained run before row) b (length before))
+          (past (has_number (chain_of_goal run one) row) row is (chain_within run one row))
+          ∙ or_none (first_chained run before row)
+          ∙ agree.chains row ∙ ap (option_and_then (λ mark. mark.chained)) is
       by (Some mark) is =
-          ap (λ (b : Bool). has_number (chain_of_goal run one) row || b) (agree.chains row ∙ ap (some_passes (λ mark. mark.chained)) is)
+          ap (λ (o : Option ℕ). chained_with o (has_number (chain_of_goal run one) row) (length before))
+          (agree.chains row ∙ ap (option_and_then (λ mark. mark.chained)) is)
 
   abbrev deletes : ℕ → Decided → Bool
   deletes row it = is_delete_first it.decision && is_row it.claim row
@@ -152,6 +183,6 @@ module _ (run : Fixed) (before : List Decided) (marks : List Mark) (one : Decide
   decided_marks later long each = record {
     count = long ∙ agree.count;
     claimers = λ row. claimers row ∙ ap (option_and_then (λ mark. mark.claimer)) (sym (each row));
-    chains = λ row. chains row ∙ ap (some_passes (λ mark. mark.chained)) (sym (each row));
+    chains = λ row. chains row ∙ ap (option_and_then (λ mark. mark.chained)) (sym (each row));
     deletions = λ row. deletions row ∙ ap (some_passes (λ mark. mark.deleted_first)) (sym (each row));
   }

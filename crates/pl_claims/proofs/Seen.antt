@@ -1,9 +1,9 @@
 -- What is kept, read off the columns.
-use Rattle.std.proofs.Common.{◌≡◌, ◌∙◌, ℕ, Bool, true, false, ◌&&◌, not, ◌||◌, cond, if◌then◌else◌, List, [], ◌∷◌, length, map, Option, Some, None, is_some, find, option_map, option_and_then, refl, sym, ap, subst}
+use Rattle.std.proofs.Common.{◌≡◌, ◌∙◌, ℕ, Bool, true, false, ◌&&◌, not, ◌||◌, cond, if◌then◌else◌, List, [], ◌∷◌, length, map, Option, Some, None, is_some, find, option_map, refl, sym, ap, subst}
 use Rattle.std.proofs.lemmas.Option.{same_Some, slice_get-map}
 use Rattle.std.specs.Bool.{beq}
 use Rattle.std.specs.List.{enumerate_from, slice_get}
-use Rattle.pl_lemmas.specs.Words.{is_row, numbered, some_passes}
+use Rattle.pl_lemmas.specs.Words.{has_number, is_row, numbered}
 use Rattle.pl_lemmas.proofs.Lists.{same_bytes}
 use Rattle.pl_lemmas.proofs.Options.{mapped_none, mapped_some}
 use Rattle.pl_lemmas.proofs.Truth.{and_right}
@@ -16,11 +16,12 @@ use Rattle.pl_model.specs.declared.decided.Decided.{Decided}
 use Rattle.pl_model.specs.declared.fixed.Fixed.{Fixed}
 use Rattle.pl_model.specs.Run.{rows_of}
 use Rattle.pl_model.specs.Claims.{chain_of_goal, claim_by, claimer_of, is_chained, is_claimed, may_claim}
-use Rattle.pl_model.specs.Rows.{is_deleted_first}
 use Rattle.pl_claims.specs.declared.claims.Claims.TheInside.{Inside}
 use Rattle.pl_claims.specs.declared.settled.Settled.{Settled}
-use Rattle.pl_claims.specs.Columns.{Kept, is_left_over, keeper_in, known_by}
+use Rattle.pl_base.specs.Keeper.{keeper_in}
+use Rattle.pl_claims.specs.Columns.{Kept, is_left_over}
 use Rattle.pl_claims.specs.Kept.{IsKept, kept_by}
+use Rattle.pl_claims.specs.Marks.{chained_with, first_chained}
 use Rattle.pl_claims.proofs.Lists.{find_both, if_passes, numbered_reverse}
 use Rattle.pl_claims.proofs.Places.{once_numbered}
 use Rattle.pl_claims.proofs.Sound.{kept_once}
@@ -38,8 +39,8 @@ module _ (inside : Inside) (holds : IsKept inside) (value : Kept) (seen : kept_b
   sound_seen = subst (λ (kept : Kept). IsSound (rows_of kept.run)) seen holds.sound
 
   -- the chain of each goal stands beside its decision
-  with_chain : (o : Option Settled) → ((one : Settled) → o ≡ Some one → one.chain ≡ chain_of_goal inside.run one.decided)
-      → option_map (chain_of_goal inside.run) (option_map (λ one. one.decided) o) ≡ option_map (λ one. one.chain) o
+  with_chain : (o : Option Settled) → ((one : Settled) → o ≡ Some one → one.chain ≡ chain_of_goal inside.base one.decided)
+      → option_map (chain_of_goal inside.base) (option_map (λ one. one.decided) o) ≡ option_map (λ one. one.chain) o
   with_chain None each = refl
   with_chain (Some one) each = ap (λ (rows : List ℕ). Some rows) (sym (each one refl))
 
@@ -48,15 +49,6 @@ module _ (inside : Inside) (holds : IsKept inside) (value : Kept) (seen : kept_b
       ap (option_map (chain_of_goal value.run)) (decided_seen goal)
       ∙ ap (λ (kept : Kept). option_map (chain_of_goal kept.run) (option_map (λ one. one.decided) (slice_get inside.settled.items goal))) (sym seen)
       ∙ with_chain (slice_get inside.settled.items goal) (λ one is. holds.chained goal one is)
-
-  pub claimer_seen : (row : ℕ) → claimer_of value.decided row ≡ option_and_then (λ mark. mark.claimer) (slice_get inside.marks.items row)
-  claimer_seen row = ap (λ (kept : Kept). claimer_of kept.decided row) (sym seen) ∙ holds.marked.claimers row
-
-  pub chained_seen : (row : ℕ) → is_chained value.run value.decided row ≡ some_passes (λ mark. mark.chained) (slice_get inside.marks.items row)
-  chained_seen row = ap (λ (kept : Kept). is_chained kept.run kept.decided row) (sym seen) ∙ holds.marked.chains row
-
-  pub deleted_seen : (row : ℕ) → is_deleted_first (known_by value) row ≡ some_passes (λ mark. mark.deleted_first) (slice_get inside.marks.items row)
-  deleted_seen row = ap (λ (kept : Kept). is_deleted_first (known_by kept) row) (sym seen) ∙ holds.marked.deletions row
 
 -- a row has a claimer where a goal claims it
 pub claimed_by_one : (decided : List Decided) (row : ℕ) → is_some (claimer_of decided row) ≡ is_claimed decided row
@@ -67,6 +59,19 @@ claimed_by_one (newest ∷ earlier) row = by (is_row newest.claim row) (claimed_
         → is_some (if b then Some (length earlier) else claimer_of earlier row) ≡ (b || is_claimed earlier row)
     by true rest = refl
     by false rest = rest
+
+-- a row is marked with a goal where it is in the chain of one
+pub chained_by_one : (run : Fixed) (decided : List Decided) (row : ℕ) → is_some (first_chained run decided row) ≡ is_chained run decided row
+chained_by_one run [] row = refl
+chained_by_one run (newest ∷ earlier) row =
+    by (first_chained run earlier row) (has_number (chain_of_goal run newest) row) (length earlier)
+    ∙ ap (λ (b : Bool). has_number (chain_of_goal run newest) row || b) (chained_by_one run earlier row)
+  where
+    by : (o : Option ℕ) (b : Bool) (goal : ℕ) → is_some (chained_with o b goal) ≡ (b || is_some o)
+    by (Some first) true goal = refl
+    by (Some first) false goal = refl
+    by None true goal = refl
+    by None false goal = refl
 
 -- ---- claims
 
@@ -79,7 +84,7 @@ number_if : (test : Bool) (one : ℕ × Entry) → option_map (λ it. it.0) (if 
 number_if true one = refl
 number_if false one = refl
 
-find_passes : {X : Type 0} (test : X → Bool) (xs : List X) (x : X) → find test xs ≡ Some x → test x ≡ true
+pub find_passes : {X : Type 0} (test : X → Bool) (xs : List X) (x : X) → find test xs ≡ Some x → test x ≡ true
 find_passes test [] x is = absurd (let none : None ≡ Some x = is in cc)
 find_passes {X = X} test (first ∷ xs) x is = by (test first) refl is (find_passes test xs x)
   where

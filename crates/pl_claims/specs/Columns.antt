@@ -4,10 +4,7 @@
 -- `row_numbers`, `claimed_row`, `keeper_of` and `is_target` the data alone; `decided_goal`, `is_decided`,
 -- `decision_of`, `stands_beside`, `claimer_of`, `is_claimed` and `is_deleted_first` what is decided alone;
 -- `chain_of_goal`, `is_chained`, `may_claim`, `claim_by` and `claim_for` both.
-use Rattle.std.specs.Prelude.{ℕ, Bool, not, ◌&&◌, Option, List, [], find, option_map}
-use Rattle.std.specs.List.{enumerate_from}
-use Rattle.pl_state.specs.References.{keeps_urn}
-use Rattle.pl_state.specs.declared.entry.Entry.{Entry}
+use Rattle.std.specs.Prelude.{ℕ, Bool, not, ◌&&◌, List, []}
 use Rattle.pl_model.specs.declared.decided.Decided.{Decided}
 use Rattle.pl_model.specs.declared.fixed.Fixed.{Fixed}
 use Rattle.pl_model.specs.Claims.{is_chained, is_claimed}
@@ -37,7 +34,3 @@ known_by kept = record {
 -- whether a row is left for a goal to claim: no goal claims it or has it in its chain
 abbrev pub is_left_over : Fixed → List Decided → ℕ → Bool
 is_left_over run decided row = not (is_claimed decided row) && not (is_chained run decided row)
-
--- the first row that keeps a URN: that has it, and is not to be deleted
-abbrev pub keeper_in : List Entry → List ℕ → Option ℕ
-keeper_in rows urn = option_map (λ row. row.0) (find (λ row. keeps_urn urn row.1) (enumerate_from 0 rows))

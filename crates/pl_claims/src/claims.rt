@@ -1,19 +1,19 @@
-ghost use Rattle.std.specs.Prelude.{◌≡◌, ◌∷◌, ◌-◌, ◌<◌, ◌&&◌, IfErr, IfOk, IfSome, length, OnErr, OnOk, option_map, slice_get};
+ghost use Rattle.std.specs.Prelude.{◌≡◌, ◌∷◌, ◌+◌, ◌-◌, ◌<◌, ◌&&◌, drop, false, IfErr, IfOk, IfSome, length, OnErr, OnOk, option_map, slice_get};
 ghost use Rattle.std.specs.Bool.{beq};
 ghost use Rattle.std.specs.Option.{option_copied};
 ghost use Rattle.pl_claims.specs.Columns.{is_left_over, known_by, nothing_decided};
+ghost use Rattle.pl_claims.specs.Marks.{first_chained};
 ghost use Rattle.pl_lemmas.specs.Words.{first_some, numbered};
 ghost use Rattle.pl_model.specs.Claims as spec;
 ghost use Rattle.pl_model.specs.Problems.{keeper_of};
 ghost use Rattle.pl_model.specs.Rows as rows;
 ghost use Rattle.pl_model.specs.Run.{rows_of};
 ghost use Rattle.pl_state.specs.Kinds.{is_of_provider as is_provider_urn};
-ghost use Rattle.pl_sound.specs.Sound.{IsSound};
 
-use crate::base::{is_of_provider, keeper};
-use crate::mark::{Mark, mark_chain, mark_claim, no_marks};
+use crate::mark::{Mark, free_chain, free_claim, mark_chain, mark_claim, no_marks};
 use crate::settled::{Settled, settled_at};
-use pl_decide::is_delete_first;
+use pl_base::Base;
+use pl_decide::{is_delete_first, is_of_provider};
 use pl_model::{Decided, Fixed};
 use pl_state::{Entry, Goal};
 use pl_urn::Urn;
@@ -24,7 +24,7 @@ use std::marker::Model;
 /// What is decided of the goals of a run, one after another, with the rows that they claim and take along.
 #[derive(Debug, Drop)]
 pub struct Claims {
-    run: Fixed,
+    base: Base,
     /// By the number of the goal.
     settled: Vec<Settled>,
     /// By row.
@@ -51,20 +51,20 @@ impl Model for Claims {
 }
 
 impl Claims {
-    /// Nothing is decided; after `OutOfMemory` the data are given back.
-    pub fn new(alloc: Global, run: Fixed) -> Result<Claims, (Fixed, OutOfMemory)>
-        requires { IsSound (rows_of run) }
-        ensures nothing { IfOk result (λ claims. claims ≡ nothing_decided run) }
-        ensures given_back { IfErr result (λ fault. fault.0 ≡ run) }
+    /// Nothing is decided; after `OutOfMemory` what the run is over is given back.
+    pub fn new(alloc: Global, base: Base) -> Result<Claims, (Base, OutOfMemory)>
+        ensures nothing { IfOk result (λ claims. claims ≡ nothing_decided base) }
+        ensures given_back { IfErr result (λ fault. fault.0 ≡ base) }
     {
-        match no_marks(alloc, run.base.entries.len()) {
+        base.is_sound();
+        match no_marks(alloc, base.len() as usize) {
             Ok(marks) => Ok(Claims {
-                run,
+                base,
                 settled: Vec::new(alloc),
                 marks,
                 ready: 0,
             }),
-            Err(fault) => Err((run, fault)),
+            Err(fault) => Err((base, fault)),
         }
     }
 
@@ -82,15 +82,28 @@ impl Claims {
     pub fn decide_prepared(&mut self, decided: Decided, chain: Rows)
         requires ready { 0 < self.old.ready }
         requires claim { IfSome decided.claim (λ row. row < length (rows_of self.old.run)) }
+        requires unclaimed { IfSome decided.claim (λ row. spec.is_claimed self.old.decided row ≡ false) }
         requires chain { chain ≡ spec.chain_of_goal self.old.run decided }
         ensures { self.new ≡ record self.old { decided = decided ∷ self.old.decided; ready = self.old.ready - 1 } }
     {
         let goal = self.settled.len() as u64;
         let first = is_delete_first(&decided.decision);
         mark_claim(self.marks.as_mut_slice(), decided.claim, goal, first);
-        mark_chain(self.marks.as_mut_slice(), chain.as_slice());
+        mark_chain(self.marks.as_mut_slice(), chain.as_slice(), goal);
         self.settled.push(Settled { decided, chain }).unwrap();
         self.ready -= 1;
+    }
+
+    /// Takes the newest decision back, which leaves memory for one more; takes none.
+    pub fn retract(&mut self)
+        requires { 0 < length self.old.decided }
+        ensures { self.new ≡ record self.old { decided = drop 1 self.old.decided; ready = self.old.ready + 1 } }
+    {
+        let (claim, chain) = self.settled.pop().unwrap().into_claim();
+        let goal = self.settled.len() as u64;
+        free_chain(self.marks.as_mut_slice(), chain.as_slice(), goal);
+        free_claim(self.marks.as_mut_slice(), claim);
+        self.ready += 1;
     }
 }
 
@@ -99,7 +112,14 @@ impl Claims {
     pub fn run(&self) -> &Fixed
         ensures { result.now ≡ self.now.run }
     {
-        &self.run
+        self.base.run()
+    }
+
+    /// What the run is over, with what is looked up in it.
+    pub fn base(&self) -> &Base
+        ensures { result.now ≡ self.now.run }
+    {
+        &self.base
     }
 
     /// Of how many goals something is decided.
@@ -144,14 +164,19 @@ impl Claims {
         self.claimer(row).is_some()
     }
 
+    /// The first goal that has the row in its chain.
+    fn chainer(&self, row: u64) -> Option<u64>
+        ensures { result ≡ first_chained self.now.run self.now.decided row }
+    {
+        let mark = self.marks.get(row as usize)?;
+        mark.chained
+    }
+
     /// Whether the row is in the chain of a goal.
     pub fn is_chained(&self, row: u64) -> bool
         ensures { result ≡ spec.is_chained self.now.run self.now.decided row }
     {
-        match self.marks.get(row as usize) {
-            None => false,
-            Some(mark) => mark.chained,
-        }
+        self.chainer(row).is_some()
     }
 
     /// Whether the row is the claim of a goal that is deleted first.
@@ -177,14 +202,14 @@ impl Claims {
     pub fn row(&self, row: u64) -> Option<&Entry>
         ensures { option_copied result ≡ rows.row_at (known_by self.now) row }
     {
-        self.run.base.entries.get(row as usize)
+        self.base.row(row)
     }
 
     /// The row that keeps a URN: it has it, and is not to be deleted.
     pub fn keeper(&self, urn: &Urn) -> Option<u64>
         ensures { result ≡ keeper_of (known_by self.now) urn.now }
     {
-        keeper(self.run.base.entries.as_slice(), urn)
+        self.base.keeper(urn.as_str())
     }
 
     /// The row that the next goal claims: by its URN, or else by its aliases in order.
@@ -211,7 +236,7 @@ impl Claims {
     fn claim_by(&self, goal: &Goal, urn: &Urn) -> Option<u64>
         ensures { result ≡ spec.claim_by self.now.run self.now.decided goal.now urn.now }
     {
-        let row = keeper(self.run.base.entries.as_slice(), urn)?;
+        let row = self.base.keeper(urn.as_str())?;
         if self.may_claim(goal, urn, row) {
             Some(row)
         } else {

@@ -12,6 +12,16 @@ pub struct Settled {
     pub chain: Rows,
 }
 
+impl Settled {
+    /// The claim, with the rows that go along with it.
+    pub fn into_claim(self) -> (Option<u64>, Rows)
+        ensures claim { result.0 ≡ self.decided.claim }
+        ensures chain { result.1 ≡ self.chain }
+    {
+        (self.decided.claim, self.chain)
+    }
+}
+
 /// What is settled of a goal.
 pub fn settled_at(settled: &[Settled], goal: u64) -> Option<&Settled>
     ensures { option_copied result ≡ slice_get settled.now goal }

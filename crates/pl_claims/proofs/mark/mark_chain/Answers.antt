@@ -14,5 +14,5 @@ pub loop-row-preserved : goal.loop-row-preserved
 loop-row-preserved c = λ place.
     let inside : c.loop-row.row-index < length c.args.chain.now = omega arith in
     c.mark_row.ensures place
-    ∙ ap (option_map (joined_by (get_or c.args.chain.now c.loop-row.row-index 0) place)) (c.loop-row.invariant place)
-    ∙ chain_more c.args.chain.now c.loop-row.row-index inside place (slice_get c.args.marks.now place)
+    ∙ ap (option_map (joined_by c.args.goal (get_or c.args.chain.now c.loop-row.row-index 0) place)) (c.loop-row.invariant place)
+    ∙ chain_more c.args.goal c.args.chain.now c.loop-row.row-index inside place (slice_get c.args.marks.now place)

@@ -4,4 +4,4 @@ use Rattle.pl_claims.proofs.mark.mark_chain.Given as goal
 
 abbrev pub invariant-loop-row : goal.invariant-loop-row
 invariant-loop-row l =
-    (place : ℕ) → slice_get l.marks place ≡ option_map (chained_by (take l.row-index l.chain) place) (slice_get l.initial.marks place)
+    (place : ℕ) → slice_get l.marks place ≡ option_map (chained_by l.goal (take l.row-index l.chain) place) (slice_get l.initial.marks place)
