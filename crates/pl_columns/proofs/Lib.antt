@@ -1,0 +1,4 @@
+pub mod Read
+pub mod Alike
+pub mod Following
+pub mod Told

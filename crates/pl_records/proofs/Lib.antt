@@ -1,0 +1,5 @@
+mod Newest
+mod Places
+mod Keeps
+mod Following
+mod Plain

@@ -1,0 +1,5 @@
+pub mod First
+pub mod Marks
+pub mod Told
+pub mod Kept
+pub mod Follows

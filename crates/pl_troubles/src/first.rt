@@ -1,0 +1,25 @@
+ghost use Rattle.std.specs.Prelude.{◌≡◌};
+ghost use Rattle.pl_troubles.specs.First.{place_of};
+
+use pl_decide::Problem;
+
+/// The first problem other than want of memory, with the position of its event.
+#[derive(Debug, Drop)]
+pub enum First {
+    /// One that was made with memory.
+    Made(u64, Problem),
+    /// One that the event at this position is by itself: a loss, a host's end or a stop.
+    OfEvent(u64),
+}
+
+impl First {
+    /// The position of its event.
+    pub fn place(&self) -> u64
+        ensures { result ≡ place_of self.now }
+    {
+        match self {
+            First::Made(at, _) => *at,
+            First::OfEvent(at) => *at,
+        }
+    }
+}
