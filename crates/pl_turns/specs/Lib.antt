@@ -1,0 +1,5 @@
+pub mod Goals
+pub mod Seen
+pub mod Chained
+pub mod Diffs
+pub mod Next
