@@ -1,0 +1,14 @@
+//! What providers are asked, and what the host is answered.
+#![tactic(auto)]
+
+mod answers;
+mod asking;
+mod asks;
+mod imports;
+mod unsent;
+
+pub use answers::{answer_for, refusal_name};
+pub use asking::ask_of;
+pub use pl_columns;
+pub use pl_events;
+pub use unsent::is_unsent;
