@@ -5,7 +5,7 @@ use Rattle.pl_world.proofs.Telling.{Gave-append, Grew-append, Grew-nothing}
 use Rattle.pl_world.specs.Causes.{OnFailed}
 use Rattle.pl_world.specs.Counts.{Rose}
 use Rattle.pl_world.specs.FrameIn.{OnFault, OnInputEnd, TakesFor}
-use Rattle.pl_world.specs.Frames.{IsBody, IsPartOfFrame, frame_of, length_bytes}
+use Rattle.pl_world.specs.Frames.{IsBody, frame_of, length_bytes}
 use Rattle.pl_world.specs.Told.{Gave, GavePart, Grew, Piece, Took}
 use Rattle.pl_world.specs.declared.frames.FrameIn.{FrameIn}
 use Rattle.pl_world.specs.declared.frames.FrameIn.TheVariants.{Fault, End, CutShort, TooLong, Empty, OutOfMemory}
@@ -13,7 +13,7 @@ use Rattle.pl_world.specs.declared.trouble.Trouble.{Trouble}
 use Rattle.pl_world.specs.declared.trouble.Trouble.TheVariants as trouble
 use Rattle.pl_program.specs.Due.{turn_of}
 use Rattle.pl_program.specs.Heard.{IsHeard, asked, heard}
-use Rattle.pl_program.specs.Told.{Ends, Gives, Goes, IsTalk, OverPipes, Steps, Told, asks, at_end, begins, done, failed, frame_status, goes_on, heard_status, hears, no_answer, no_body, not_given, not_taken, trouble_status, wants_memory}
+use Rattle.pl_program.specs.Told.{Ends, Gives, Goes, IsTalk, OverPipes, Steps, Told, asks, at_end, begins, done, failed, frame_status, goes_on, heard_status, hears, no_answer, no_body, no_memory, no_memory_to_give, no_memory_to_take, not_given, not_taken, trouble_status}
 use Rattle.pl_program.specs.declared.talk.Talk.{Talk}
 use Rattle.pl_program.specs.declared.talk.Turn.{Turn}
 use Rattle.pl_program.specs.declared.talk.Turn.TheVariants.{Await, Ask, Done, Failed}
@@ -28,7 +28,9 @@ ends_by F' E' f e (not_taken bytes is part fault) = not_taken bytes is part (f f
 ends_by F' E' f e (at_end bytes is part ended) = at_end bytes is part (e ended)
 ends_by F' E' f e (no_answer body is whole none) = no_answer body is whole none
 ends_by F' E' f e (no_body n is small bad) = no_body n is small bad
-ends_by F' E' f e (wants_memory given taken) = wants_memory given taken
+ends_by F' E' f e no_memory = no_memory
+ends_by F' E' f e (no_memory_to_give body count is) = no_memory_to_give body count is
+ends_by F' E' f e (no_memory_to_take bytes is start) = no_memory_to_take bytes is start
 
 pub goes_by : (now later : Talk) (F E : Type 0) (given taken : List ℕ) (status : Option ℕ) (F' E' : Type 0) → (F → F') → (E → E') → Goes now later status F E given taken → Goes now later status F' E' given taken
 goes_by now later F E given taken None F' E' f e goes = goes
@@ -80,7 +82,7 @@ gave_request now later body Faulted before after turn counted gave =
 pub gave_part : (why : Trouble) (now : Talk) (body : List ℕ) (Faulted : Type 0) (before after : Option (List Piece)) → Gives (turn_of now) body
     → GavePart before after (frame_of body) None → OnFailed {T = Unit {0}} (Err why) Faulted → OverGiving before after (λ given taken. Ends now Faulted ⊥ given taken (trouble_status why))
 gave_part trouble.Failed now body Faulted before after gives part fault = (take part.0 (frame_of body), part.2, not_given body part.0 gives fault)
-gave_part trouble.OutOfMemory now body Faulted before after gives part fault = (take part.0 (frame_of body), part.2, wants_memory (take part.0 (frame_of body)) [])
+gave_part trouble.OutOfMemory now body Faulted before after gives part fault = (take part.0 (frame_of body), part.2, no_memory_to_give body part.0 gives)
 
 pub asked_gives : (turn : Turn) (body : List ℕ) → turn ≡ Ask body → Gives turn body
 asked_gives Await body is = absurd (cc)
@@ -90,7 +92,7 @@ asked_gives (Failed sent) body is = absurd (cc)
 
 -- nothing was given
 pub gave_nothing : (now : Talk) (Faulted : Type 0) (given : Option (List Piece)) → OverGiving given given (λ given taken. Ends now Faulted ⊥ given taken 7)
-gave_nothing now Faulted given = ([], Gave-nothing given given refl, wants_memory [] [])
+gave_nothing now Faulted given = ([], Gave-nothing given given refl, no_memory)
 
 -- no frame came
 pub took_none : (why : FrameIn) (now : Talk) (Faulted AtEnd : Type 0) (taken_old taken_new left_old left_new : Option (List ℕ)) → turn_of now ≡ Await
@@ -107,7 +109,7 @@ took_none (TooLong n) now Faulted AtEnd taken_old taken_new left_old left_new tu
 took_none Empty now Faulted AtEnd taken_old taken_new left_old left_new turn took fault ended =
     (length_bytes 0, took.taken_grew, no_body 0 turn (omega arith) (inl refl))
 took_none OutOfMemory now Faulted AtEnd taken_old taken_new left_old left_new turn (bytes, part, took) fault ended =
-    (bytes, took.taken_grew, wants_memory [] bytes)
+    (bytes, took.taken_grew, no_memory_to_take bytes turn (inl part))
 
 -- a frame came
 pub took_frame : (now later : Talk) (status : Option ℕ) (body : List ℕ) (Faulted AtEnd : Type 0) (taken_old taken_new left_old left_new : Option (List ℕ))
@@ -183,7 +185,7 @@ over_nothing start F E given taken = (
     given_last = [];
     taken_last = [];
     told = begins;
-    ends = wants_memory [] [];
+    ends = no_memory;
     all_given = refl;
     all_taken = refl;
   },
@@ -191,4 +193,4 @@ over_nothing start F E given taken = (
 
 -- want of memory in a round
 pub over_wanting : (now later : Talk) (F E : Type 0) (given : Option (List Piece)) (taken : Option (List ℕ)) → OverPipes given given taken taken (Goes now later (Some 7) F E)
-over_wanting now later F E given taken = ([], [], Gave-nothing given given refl, Grew-nothing taken taken refl, wants_memory [] [])
+over_wanting now later F E given taken = ([], [], Gave-nothing given given refl, Grew-nothing taken taken refl, no_memory)

@@ -1,5 +1,5 @@
 -- Each step of a talk leaves less to be done.
-use Rattle.std.proofs.Common.{◌≡◌, ◌∙◌, ℕ, ◌+◌, ◌-◌, ◌*◌, ◌<◌, ◌≤◌, ◌==◌, Bool, true, false, not, ◌||◌, List, [], ◌∷◌, ◌++◌, length, filter, if◌then◌else◌, Option, None, Some, nat_le, nat_lt, option_map, slice_get, refl, sym, ap, subst, arith, length-append, rules}
+use Rattle.std.proofs.Common.{◌≡◌, ℕ, ◌+◌, ◌-◌, ◌*◌, ◌<◌, ◌≤◌, ◌==◌, Bool, true, false, not, ◌||◌, List, [], ◌∷◌, length, if◌then◌else◌, Option, None, Some, nat_le, nat_lt, option_map, slice_get, refl, ap, subst, arith, length-append}
 use Rattle.std.specs.List.{list_any}
 use Rattle.std.proofs.lemmas.Option.{slice_get_within}
 use Rattle.pl_events.specs.declared.event.Answer.{Answer}
@@ -14,11 +14,10 @@ use Rattle.pl_program_file.specs.declared.program.Program.{Program}
 use Rattle.pl_program_file.specs.declared.program.Resource.{Resource}
 use Rattle.pl_world.specs.declared.frames.TheConstants.{MAX_BODY}
 use Rattle.pl_program.specs.Due.{next_word, said, stack_word, too_long_word, turn_for, turn_of, word_at, word_at_outputs, word_due, word_unless}
-use Rattle.pl_program.specs.Heard.{answered, asked, heard, heard_answer, heard_told, is_unanswered, taken_up, with_resource, with_row, without}
+use Rattle.pl_program.specs.Heard.{answered, asked, heard, heard_told, is_unanswered, taken_up, with_row, without}
 use Rattle.pl_program.specs.Told.{Steps, asks, hears}
 use Rattle.pl_program.specs.declared.talk.Talk.{Talk}
-use Rattle.pl_program.specs.declared.talk.Turn.{Turn}
-use Rattle.pl_program.specs.declared.talk.Turn.TheVariants.{Await, Ask, Done, Failed}
+use Rattle.pl_program.specs.declared.talk.Turn.TheVariants.{Ask}
 
 -- twice the requests that are left, and the answers that are awaited
 abbrev pub weight : Talk → ℕ

@@ -1,9 +1,7 @@
 -- What a host says next, by what it has sent and heard.
-use Rattle.std.specs.Prelude.{⊤, ℕ, ◌==◌, ◌+◌, ◌-◌, List, [], ◌∷◌, ◌++◌, length, codes, Bool, true, ◌&&◌, nat_le, nat_lt, if◌then◌else◌, Option, None, Some, is_some, slice_get, Result, Ok, Err}
+use Rattle.std.specs.Prelude.{⊤, ℕ, ◌==◌, ◌+◌, ◌-◌, List, [], ◌++◌, length, codes, Bool, ◌&&◌, nat_le, nat_lt, if◌then◌else◌, Option, None, Some, is_some, slice_get, Result, Ok, Err}
 use Rattle.std.specs.List.{list_all}
-use Rattle.pl_value.specs.declared.value.Value.{Value}
 use Rattle.pl_state.specs.Component.{plain_registration}
-use Rattle.pl_state.specs.declared.goal.Registration.{Registration}
 use Rattle.pl_world.specs.Frames.{IsBody}
 use Rattle.pl_world.specs.declared.frames.TheConstants.{MAX_BODY}
 use Rattle.pl_events.specs.declared.event.Request.TheVariants.{Register, Outputs}

@@ -1,6 +1,6 @@
 -- What a host gives and takes, from its beginning to its end.
-use Rattle.std.specs.Prelude.{◌≡◌, ◌⊎◌, Bool, if◌then◌else◌, ℕ, ◌<◌, ◌≤◌, ◌^◌, List, [], ◌++◌, length, take, Option, None, Some}
-use Rattle.pl_world.specs.Frames.{IsBody, IsPartOfFrame, frame_of, length_bytes}
+use Rattle.std.specs.Prelude.{◌≡◌, ◌⊎◌, Bool, if◌then◌else◌, ℕ, ◌<◌, ◌^◌, List, [], ◌++◌, take, Option, None, Some}
+use Rattle.pl_world.specs.Frames.{IsBody, IsPartOfFrame, IsStartOfFrame, frame_of, length_bytes}
 use Rattle.pl_world.specs.Told.{Gave, Grew, Piece}
 use Rattle.pl_world.specs.declared.frames.FrameIn.{FrameIn}
 use Rattle.pl_world.specs.declared.frames.FrameIn.TheVariants.{Fault, End, CutShort, TooLong, Empty, OutOfMemory}
@@ -32,7 +32,8 @@ Gives (Done sent) body = sent ≡ body
 Gives (Failed sent) body = sent ≡ body
 
 -- how a talk ends, with the last bytes given and taken, and the status; Faulted says that the count of faults of a pipe
--- rose, AtEnd that the count of the ends of the input did
+-- rose, AtEnd that the count of the ends of the input did; where no memory was found nothing was given or taken, or the
+-- beginning of the frame that is due was given, or that of one frame was taken, which may be whole
 pub data Ends (now : Talk) (Faulted AtEnd : Type 0) : List ℕ → List ℕ → ℕ → Type 0 where
   done : (body : List ℕ) → turn_of now ≡ Done body → Ends now Faulted AtEnd (frame_of body) [] 0
   failed : (body : List ℕ) → turn_of now ≡ Failed body → Ends now Faulted AtEnd (frame_of body) [] 1
@@ -41,7 +42,9 @@ pub data Ends (now : Talk) (Faulted AtEnd : Type 0) : List ℕ → List ℕ → 
   at_end : (bytes : List ℕ) → turn_of now ≡ Await → IsPartOfFrame bytes → AtEnd → Ends now Faulted AtEnd [] bytes 6
   no_answer : (body : List ℕ) → turn_of now ≡ Await → IsBody body → heard body now ≡ None → Ends now Faulted AtEnd [] (frame_of body) 6
   no_body : (n : ℕ) → turn_of now ≡ Await → n < 2 ^ 32 → (n ≡ 0) ⊎ (MAX_BODY < n) → Ends now Faulted AtEnd [] (length_bytes n) 6
-  wants_memory : (given taken : List ℕ) → Ends now Faulted AtEnd given taken 7
+  no_memory : Ends now Faulted AtEnd [] [] 7
+  no_memory_to_give : (body : List ℕ) (count : ℕ) → Gives (turn_of now) body → Ends now Faulted AtEnd (take count (frame_of body)) [] 7
+  no_memory_to_take : (bytes : List ℕ) → turn_of now ≡ Await → IsStartOfFrame bytes → Ends now Faulted AtEnd [] bytes 7
 
 -- the status after a frame that was not given whole
 abbrev pub trouble_status : Trouble → ℕ

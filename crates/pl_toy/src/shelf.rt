@@ -8,7 +8,7 @@ use pl_world::Trouble;
 use std::alloc::Global;
 
 /// A place that keeps things by their ids, each as some bytes.
-pub trait Shelf: Drop + Send {
+pub trait Shelf: Drop {
     // how many faults there were
     ghost faults: { Self → ℕ };
 

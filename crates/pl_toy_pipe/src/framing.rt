@@ -1,51 +1,73 @@
-ghost use Rattle.std.specs.Prelude.{◌≡◌, ◌<◌, ◌≤◌, ◌++◌, IfSome, OnErr, OnOk};
-ghost use Rattle.pl_world.specs.Frames.{IsBody, frame_of};
-ghost use Rattle.pl_toy_pipe.specs.Piped.{IsAwaiting};
+ghost use Rattle.std.specs.Int.{w32, from_be_bytes};
+ghost use Rattle.std.specs.Prelude.{◌≡◌, ◌<◌, ◌≤◌, ◌++◌, ℕ, List, length, OnErr, OnOk};
+ghost use Rattle.pl_world.specs.Frames.{IsBody, frame_of, length_bytes};
+ghost use Rattle.pl_toy_pipe.specs.Piped.{Fits, IsBegun, IsReached};
 
 use pl_world::MAX_BODY;
 use std::alloc::AllocError;
 
 /// How many bytes the length of a frame has.
-const HEADER: usize = 4;
+pub(crate) const HEADER: usize = 4;
 
-/// How many bytes are missing of what is begun, as far as its length is known; none where that is bad.
-pub(crate) fn missing(begun: &[u8]) -> usize
-    ensures awaiting { 0 < result → IsAwaiting begun.now }
-{
-    let Some(header) = begun.first_chunk::<HEADER>() else {
-        return HEADER - begun.len().min(HEADER);
-    };
-    let body = u32::from_be_bytes(*header) as usize;
-    if body > MAX_BODY {
-        return 0;
-    }
-    (HEADER + body).saturating_sub(begun.len())
+/// How far the bytes reach that came of one frame.
+#[derive(Clone, Copy)]
+pub(crate) enum Reach {
+    /// More are missing.
+    Part,
+    /// They are a frame.
+    Whole,
+    /// They are a length that no body has.
+    BadLength,
 }
 
-/// The body of a frame, or none where the bytes are no frame.
-pub(crate) fn body_of(frame: &[u8]) -> Option<&[u8]>
-    ensures { IfSome result (λ body. IsBody body.now × (frame.now ≡ frame_of body.now)) }
+/// How many bytes are missing of the frame that is begun, as far as its length is known.
+pub(crate) fn missing(begun: &[u8]) -> usize
+    requires { IsBegun begun.now }
+    ensures some { 0 < result }
+    ensures fits { (more : List ℕ) → length more ≤ result → Fits (begun.now ++ more) }
 {
-    if frame.len() <= HEADER || frame.len() > HEADER + MAX_BODY {
-        return None;
+    let Some((header, body)) = begun.split_first_chunk::<HEADER>() else {
+        return HEADER - begun.len();
+    };
+    let length = length_of(*header) as usize;
+    length - body.len()
+}
+
+/// How far the bytes reach, of which no more came than the frame has.
+pub(crate) fn reach_of(begun: &[u8]) -> Reach
+    requires { Fits begun.now }
+    ensures { IsReached result begun.now }
+{
+    let Some((header, body)) = begun.split_first_chunk::<HEADER>() else {
+        return Reach::Part;
+    };
+    let length = length_of(*header) as usize;
+    if length == 0 || length > MAX_BODY {
+        return Reach::BadLength;
     }
-    let (front, body) = frame.split_at(HEADER);
-    let header = (body.len() as u32).to_be_bytes();
-    if front == header.as_slice() {
-        Some(body)
+    if body.len() < length {
+        Reach::Part
     } else {
-        None
+        Reach::Whole
     }
+}
+
+// The length that four bytes spell.
+fn length_of(header: [u8; HEADER]) -> u32
+    ensures spelled { length_bytes result ≡ header }
+    ensures value { result ≡ from_be_bytes w32 header }
+{
+    u32::from_be_bytes(header)
 }
 
 /// Adds the frame of a body.
-pub(crate) fn add_frame(replies: &mut Vec<u8>, body: &[u8]) -> Result<(), AllocError>
+pub(crate) fn add_frame(frames: &mut Vec<u8>, body: &[u8]) -> Result<(), AllocError>
     requires { IsBody body.now }
-    ensures added { OnOk result (replies.new.items ≡ replies.old.items ++ frame_of body.now) }
-    ensures kept { OnErr result (replies.new.items ≡ replies.old.items) }
+    ensures added { OnOk result (frames.new.items ≡ frames.old.items ++ frame_of body.now) }
+    ensures kept { OnErr result (frames.new.items ≡ frames.old.items) }
 {
     let header = (body.len() as u32).to_be_bytes();
-    replies.reserve(HEADER + body.len())?;
-    replies.extend_from_slice(&header)?;
-    replies.extend_from_slice(body)
+    frames.reserve(HEADER + body.len())?;
+    frames.extend_from_slice(&header)?;
+    frames.extend_from_slice(body)
 }

@@ -1,5 +1,8 @@
+use crate::piped::is_exchanged;
 use pl_os_shelf::FolderShelf;
 use pl_toy::Shelf;
+use pl_toy_pipe::{ToyPipe, toy_pipe};
+use pl_world::MemCover;
 use std::alloc::{AllocError, Global};
 use std::test::Fail;
 use std::{env, fs, process};
@@ -62,6 +65,26 @@ fn things_are_kept_in_files(rt: HostRuntime) -> Result<(), Fail> {
     }
     let file = format!(in alloc; "{folder}/2fc3a9")?;
     assert!(rt; fs::exists(&rt, file.as_str())?);
+    fs::remove_dir_all(&rt, folder.as_str())?;
+    Ok(())
+}
+
+const CREATE: &str =
+    r#"{"call":"create","inputs":{"k":1},"n":1,"urn":"urn:pulumi:dev::web::toy:index:Thing::a"} => {"n":1,"ok":{"id":"a-1","outputs":{"k":1}}}"#;
+
+#[test]
+fn a_toy_in_memory_keeps_things_in_files(rt: HostRuntime) -> Result<(), Fail> {
+    let alloc = rt.alloc();
+    let folder = new_place(&rt, "piped")?;
+    let shelf = FolderShelf::new(rt, folder.as_str())?;
+    let mut pipe: ToyPipe<FolderShelf, MemCover> = toy_pipe(alloc, shelf);
+    assert!(rt; is_exchanged(alloc, &mut pipe, CREATE)?);
+    let mut shelf = pipe.into_shelf();
+    let found = called(alloc, &mut shelf, ("get", "a-1", b""))?;
+    assert_eq!(rt;
+        found.as_str(),
+        "Ok(Some(Bytes { bytes: [123, 34, 107, 34, 58, 49, 125] })) 0"
+    );
     fs::remove_dir_all(&rt, folder.as_str())?;
     Ok(())
 }

@@ -4,6 +4,8 @@
 #[cfg(test)]
 mod folders;
 #[cfg(test)]
+mod hosted;
+#[cfg(test)]
 mod piped;
 #[cfg(test)]
 mod talks;

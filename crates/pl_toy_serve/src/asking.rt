@@ -11,9 +11,9 @@ use std::alloc::Global;
 
 /// What is asked, and under which ticket.
 #[derive(Drop)]
-pub(crate) struct Request {
-    pub(crate) ticket: u64,
-    pub(crate) asked: Ask,
+pub struct Request {
+    pub ticket: u64,
+    pub asked: Ask,
 }
 
 /// Takes one frame, and answers what it asks.

@@ -6,4 +6,6 @@ mod ending;
 mod serving;
 mod speaking;
 
+pub use asking::Request;
 pub use serving::serve_toy;
+pub use speaking::reply_to;

@@ -35,7 +35,13 @@ pub(crate) fn replied<H: Shelf>(
     }
 }
 
-fn reply_to<H: Shelf>(alloc: Global, shelf: &mut H, request: &Request) -> Result<Bytes, OutOfMemory>
+/// The body of the reply to a request, which is carried out over the shelf: that of the error `too long` where it would be
+/// longer than the body of a frame may be.
+pub fn reply_to<H: Shelf>(
+    alloc: Global,
+    shelf: &mut H,
+    request: &Request,
+) -> Result<Bytes, OutOfMemory>
     ensures answer { IfOk result (λ body. IsAnswer request.now.ticket request.now.asked body (H.things shelf.old) (H.things shelf.new) (Rose (H.faults shelf.old) (H.faults shelf.new))) }
     ensures body { IfOk result IsBody }
     ensures kept_or_replied { OnErr result (IsKeptOrReplied request.now.asked (H.things shelf.old) (H.things shelf.new) (Rose (H.faults shelf.old) (H.faults shelf.new))) }

@@ -1,4 +1,4 @@
-use Rattle.std.proofs.Common.{◌≡◌, ◌||◌, List, ℕ, false, not, bytes_eq, ap}
+use Rattle.std.proofs.Common.{◌||◌, List, ℕ, false, not, bytes_eq, ap}
 use Rattle.pl_value.proofs.Levels.{is_value-Whole}
 use Rattle.pl_value.specs.Marks.{secret_key}
 use Rattle.pl_program.proofs.generating.inputs_at.Goals as goal
