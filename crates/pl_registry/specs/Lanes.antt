@@ -1,6 +1,7 @@
 -- A table of lanes: what is told of it, and what its calls change.
-use Rattle.std.specs.Prelude.{ℕ, ◌==◌, Bool, true, false, not, ◌&&◌, nat_lt, Option, None, Some, option_map, unwrap_or, List, [], ◌∷◌, ◌++◌, bytes_eq, codes, filter, find, length, slice_get, slice_set}
+use Rattle.std.specs.Prelude.{ℕ, ◌==◌, Bool, true, false, not, ◌&&◌, nat_lt, Option, None, Some, option_map, unwrap_or, List, [], ◌∷◌, ◌++◌, codes, filter, find, length, slice_get, slice_set}
 use Rattle.std.specs.List.{range_with_len}
+use Rattle.pl_reference.specs.Packages.{words_of}
 use Rattle.pl_events.specs.Lanes.{LanesTold}
 use Rattle.pl_events.specs.declared.operation.Source.{Source}
 use Rattle.pl_events.specs.declared.operation.Source.TheVariants as source
@@ -116,14 +117,10 @@ with_lane change lane table = record table { lanes = changed_at change lane tabl
 
 -- ---- the words that start a provider
 
--- the words that were given for a package
-abbrev pub given_words : List (List ℕ × List (List ℕ)) → List ℕ → Option (List (List ℕ))
-given_words commands provided = option_map (λ pair. pair.1) (find (λ pair. bytes_eq pair.0 provided) commands)
-
--- those where none were given: `pulumi-resource-<package>`
+-- the words where none were given: `pulumi-resource-<package>`
 abbrev pub usual_words : List ℕ → List (List ℕ)
 usual_words provided = (codes "pulumi-resource-" ++ provided) ∷ []
 
 -- the words that start the provider of a package
 abbrev pub lane_words : List (List ℕ × List (List ℕ)) → List ℕ → List (List ℕ)
-lane_words commands provided = unwrap_or (given_words commands provided) (usual_words provided)
+lane_words commands provided = unwrap_or (words_of commands provided) (usual_words provided)

@@ -69,7 +69,7 @@ impl LaneTable {
     pub fn lane_words(&self, alloc: Global, provided: &str) -> Result<Words, OutOfMemory>
         ensures { IfOk result (λ words. words ≡ spec.lane_words self.now.commands provided.now) }
     {
-        words_for(alloc, self.commands.as_slice(), provided)
+        words_for(alloc, &self.commands, provided)
     }
 
     /// The child is at work; takes no memory.

@@ -10,7 +10,7 @@ fn table(alloc: Global) -> Result<LaneTable, OutOfMemory> {
     let mut words = Words::new(alloc);
     words.push(Text::from_str(alloc, "toy")?)?;
     let mut commands = ProviderWords::new(alloc);
-    commands.push((Text::from_str(alloc, "a")?, words))?;
+    commands.add(Text::from_str(alloc, "a")?, words)?;
     Ok(LaneTable::new(alloc, 2, commands))
 }
 

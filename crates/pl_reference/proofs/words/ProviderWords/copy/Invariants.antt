@@ -1,6 +1,0 @@
-use Rattle.std.proofs.Common.{◌≡◌, take}
-use Rattle.pl_reference.proofs.words.ProviderWords.copy.Given as goal
-
--- the elements that were copied are the first ones
-abbrev pub invariant-loop-pair : goal.invariant-loop-pair
-invariant-loop-pair l = l.pairs.items ≡ take l.pair-index l.pair-items
