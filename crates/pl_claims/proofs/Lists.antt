@@ -1,41 +1,12 @@
--- Lists that are written to, that stand the other way round, or in which a test is passed once.
-use Rattle.std.proofs.Common.{◌≡◌, ◌<◌, ◌+◌, ℕ, zero, suc, Bool, true, false, ◌==◌, ◌&&◌, ◌||◌, cond, if◌then◌else◌, List, [], ◌∷◌, ◌++◌, length, reverse, take, get_or, Option, Some, None, refl, sym, ap, subst, ◌∙◌, arith}
-use Rattle.std.proofs.lemmas.Bool.Decides.{nat_tests}
-use Rattle.std.proofs.lemmas.List.{length-reverse, reverse-append, reverse-reverse, take_more}
+-- Lists that are written to, or in which a test is passed once.
+use Rattle.std.proofs.Common.{◌≡◌, ◌<◌, ◌+◌, ℕ, zero, suc, Bool, true, false, ◌==◌, ◌&&◌, ◌||◌, cond, if◌then◌else◌, List, [], ◌∷◌, ◌++◌, length, take, get_or, Option, Some, None, refl, sym, ap, subst, ◌∙◌, arith}
+use Rattle.std.proofs.lemmas.List.{take_more}
 use Rattle.std.proofs.lemmas.Option.{same_Some}
 use Rattle.std.specs.List.{find, list_any, slice_get}
 use Rattle.std.specs.Option.{option_or}
-use Rattle.pl_lemmas.specs.Words.{first_some, numbered}
+use Rattle.pl_lemmas.specs.Words.{first_some}
+use Rattle.pl_lemmas.proofs.Numbered.{get_push}
 use Rattle.pl_lemmas.proofs.Options.{neither}
-
-zero_suc : (k : ℕ) → (0 == suc k) ≡ false
-zero_suc k = grind (arith, nat_tests)
-
-suc_zero : (k : ℕ) → (suc k == 0) ≡ false
-suc_zero k = grind (arith, nat_tests)
-
--- ---- the other way round
-
-get_push : {X : Type 0} (xs : List X) (y : X) (k : ℕ) → slice_get (xs ++ y ∷ []) k ≡ (if length xs == k then Some y else slice_get xs k)
-get_push [] y zero = refl
-get_push {X = X} [] y (suc k) = ap (λ (b : Bool). if b then Some y else None) (sym (zero_suc k))
-get_push {X = X} (x ∷ xs) y zero = ap (λ (b : Bool). if b then Some y else Some x) (sym (suc_zero (length xs)))
-get_push {X = X} (x ∷ xs) y (suc k) =
-    let same : (suc (length xs) == suc k) ≡ (length xs == k) = grind (arith, nat_tests) in
-    get_push xs y k ∙ ap (λ (b : Bool). if b then Some y else slice_get xs k) (sym same)
-
-numbered_turned : {X : Type 0} (xs : List X) (n : ℕ) → slice_get (reverse xs) n ≡ numbered xs n
-numbered_turned [] n = refl
-numbered_turned {X = X} (newest ∷ earlier) n =
-    ap (λ (ys : List X). slice_get ys n) (reverse-append (newest ∷ []) earlier)
-    ∙ get_push (reverse earlier) newest n
-    ∙ ap (λ (m : ℕ). if m == n then Some newest else slice_get (reverse earlier) n) (length-reverse earlier)
-    ∙ ap (λ (o : Option X). if length earlier == n then Some newest else o) (numbered_turned earlier n)
-
--- in a list that stands newest first each has as its number its place in the other direction
-pub numbered_reverse : {X : Type 0} (xs : List X) (n : ℕ) → numbered (reverse xs) n ≡ slice_get xs n
-numbered_reverse {X = X} xs n =
-    sym (numbered_turned (reverse xs) n) ∙ ap (λ (ys : List X). slice_get ys n) (reverse-reverse xs)
 
 -- what holds of each element holds of each with one more at the end
 pub each_push : {X : Type 0} (xs : List X) (y : X) (P : X → Type 0) → ((k : ℕ) (x : X) → slice_get xs k ≡ Some x → P x) → P y

@@ -22,7 +22,8 @@ use Rattle.pl_base.specs.Keeper.{keeper_in}
 use Rattle.pl_claims.specs.Columns.{Kept, is_left_over}
 use Rattle.pl_claims.specs.Kept.{IsKept, kept_by}
 use Rattle.pl_claims.specs.Marks.{chained_with, first_chained}
-use Rattle.pl_claims.proofs.Lists.{find_both, if_passes, numbered_reverse}
+use Rattle.pl_lemmas.proofs.Numbered.{numbered_reverse}
+use Rattle.pl_claims.proofs.Lists.{find_both, if_passes}
 use Rattle.pl_claims.proofs.Places.{once_numbered}
 use Rattle.pl_claims.proofs.Sound.{kept_once}
 

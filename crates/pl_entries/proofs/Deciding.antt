@@ -5,8 +5,9 @@ use Rattle.std.specs.Option.{option_or}
 use Rattle.pl_columns.specs.declared.columns.Columns.{Columns}
 use Rattle.pl_columns.specs.Read.{history_by, known_by, summary_by}
 use Rattle.pl_lemmas.proofs.Numbers.{equal_numbers}
+use Rattle.pl_lemmas.proofs.Numbered.{numbered_below}
 use Rattle.pl_lemmas.proofs.Options.{or_none}
-use Rattle.pl_lemmas.specs.Words.{has_number, numbered, only_if}
+use Rattle.pl_lemmas.specs.Words.{has_number, only_if}
 use Rattle.pl_model.specs.Claims.{claimed_row}
 use Rattle.pl_model.specs.Decisions.{Turn, number_at, turn_in, turn_of}
 use Rattle.pl_model.specs.Known.{Known, claim_of, claim_row, decided_goal, next_turn, turn_of_goal}
@@ -19,15 +20,6 @@ use Rattle.pl_records.specs.Columns.{fresh_in}
 use Rattle.pl_state.specs.declared.goal.Goal.{Goal}
 
 -- ---- claims
-
-numbered_below : {X : Type 0} (xs : List X) (n : ℕ) (x : X) → numbered xs n ≡ Some x → n < length xs
-numbered_below [] n x h = absurd (let e : None ≡ Some x = h in cc)
-numbered_below (y ∷ ys) n x h = by (length ys == n) refl (numbered_below ys n x) h
-  where
-    by : (b : Bool) → (length ys == n) ≡ b → (numbered ys n ≡ Some x → n < length ys)
-        → (if b then Some y else numbered ys n) ≡ Some x → n < length (y ∷ ys)
-    by true is rest h = let e : length ys ≡ n = equal_numbers (length ys) n is in omega arith
-    by false is rest h = let less : n < length ys = rest h in omega arith
 
 -- the first goal without a decision has the count of the decisions for its number
 turn_number : (run : Fixed) (answers : List Closed) (goals : List Goal) (decided : List Decided) (turn : Turn)

@@ -3,3 +3,4 @@ pub mod Options
 pub mod Numbers
 pub mod Lists
 pub mod Each
+pub mod Numbered

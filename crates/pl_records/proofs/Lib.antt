@@ -1,5 +1,4 @@
 mod Newest
-mod Places
 mod Keeps
 mod Following
 mod Plain

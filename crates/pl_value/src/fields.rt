@@ -1,9 +1,11 @@
 ghost use Rattle.std.specs.Prelude.{◌≡◌, ◌↔◌, [], ◌∷◌, ◌++◌, IfOk, IfSome, IsTrue, length, OnErr, OnOk, slice_get};
 ghost use Rattle.std.specs.Option.{option_copied};
+ghost use Rattle.pl_value.specs.Inside.{any_field_unknown};
 ghost use Rattle.pl_value.specs.IsValue.{IsValue, AreFields, may_stand_under};
 ghost use Rattle.pl_value.specs.Keys.{are_all_below, value_at};
 
 use crate::copy::copy_fields;
+use crate::inside;
 use crate::sound::is_text_below;
 use crate::value::Value;
 use pl_text::{OutOfMemory, Text};
@@ -68,6 +70,13 @@ impl Fields {
     {
         let Fields { fields } = self;
         fields
+    }
+
+    /// Whether an unknown stands in one of the fields, at any depth.
+    pub fn has_unknown(&self) -> bool
+        ensures { result ≡ any_field_unknown self.now }
+    {
+        inside::any_field_unknown(self.as_slice())
     }
 
     pub fn as_slice(&self) -> &[(Text, Value)]

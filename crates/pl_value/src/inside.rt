@@ -30,7 +30,8 @@ fn any_unknown(values: &[Value]) -> bool
 }
 
 #[cycle(unknown)]
-fn any_field_unknown(fields: &[(Text, Value)]) -> bool
+/// Whether an unknown stands in one of the fields.
+pub fn any_field_unknown(fields: &[(Text, Value)]) -> bool
     ensures { result ≡ spec.any_field_unknown fields.now }
 {
     for (_, value) in fields {
