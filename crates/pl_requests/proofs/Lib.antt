@@ -1,9 +1,6 @@
-pub mod Places
 pub mod References
 pub mod FirstUnknown
 pub mod Defaults
 pub mod Makings
 pub mod Refusals
-pub mod Indexed
-pub mod Seen
 pub mod Columns

@@ -23,7 +23,8 @@ use Rattle.pl_model.specs.Known.{Known, has_problem}
 use Rattle.pl_model.specs.Requests.{about_of, default_urn, fate_by, fate_of, goal_refusal, goals_made, invoke_refusal, invoked_provider, is_bad_default, named_provider, newest_number, refusal_of, refused_if, token_package, uses_default, with_default, with_goal, with_invoked, with_provider}
 use Rattle.pl_requests.specs.declared.default.DefaultProvider.{DefaultProvider}
 use Rattle.pl_requests.specs.declared.making.Making.{Making}
-use Rattle.pl_requests.specs.Column.{Change, IsChangeBy, IsTold, IsToldAs, accepted_with}
+use Rattle.pl_told.specs.Column.{Change}
+use Rattle.pl_requests.specs.Column.{IsChangeBy, IsTold, IsToldAs, accepted_with}
 use Rattle.pl_requests.specs.Ids.{known_over}
 use Rattle.pl_requests.specs.Making.{Makes, MakesFor, Provides, own_making}
 use Rattle.pl_requests.specs.Reading.{is_known_version}

@@ -13,7 +13,7 @@ use Rattle.pl_model.specs.Known.{Known, is_recorded, provider_id}
 use Rattle.pl_model.specs.Requests.{has_id, is_met, is_met_reference}
 use Rattle.pl_requests.specs.Ids.{TellsIds}
 use Rattle.pl_requests.specs.Reading.{has_id_at, is_met_by, is_met_text}
-use Rattle.pl_requests.proofs.Places.{where_passes}
+use Rattle.pl_told.proofs.Places.{where_passes}
 
 -- ---- a reference names a provider
 

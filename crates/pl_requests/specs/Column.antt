@@ -1,35 +1,16 @@
--- The goals and the told requests of a history by themselves: what is kept of them, and what a told request changes.
-use Rattle.std.specs.Prelude.{◌≡◌, Bool, false, Option, None, List, [], ◌∷◌, ◌++◌}
-use Rattle.pl_lemmas.specs.Words.{option_list}
+-- What a told request changes of goals and told requests.
+pub use Rattle.pl_told.specs.Column.{Kept}
+use Rattle.std.specs.Prelude.{◌≡◌, None, List, ◌++◌}
 use Rattle.pl_state.specs.declared.goal.Goal.{Goal}
 use Rattle.pl_events.specs.declared.event.Request.{Request}
 use Rattle.pl_model.specs.declared.fixed.Fixed.{Fixed}
 use Rattle.pl_model.specs.declared.heard.Fate.{Fate}
 use Rattle.pl_model.specs.declared.heard.Fate.TheVariants.{Accepted}
-use Rattle.pl_model.specs.declared.heard.Heard.{Heard}
 use Rattle.pl_model.specs.Known.{Known}
 use Rattle.pl_model.specs.Requests.{asked_by, fate_of, goals_by, refusal_of}
+use Rattle.pl_told.specs.Column.{Change, made_by}
 use Rattle.pl_requests.specs.declared.making.Making.{Making}
 use Rattle.pl_requests.specs.Ids.{known_over}
-
--- goals and told requests, newest first, and whether there is memory for one more request with the goals that it makes
-pub record Kept : Type 0 where
-  pub goals : List Goal
-  pub asked : List Heard
-  pub ready : Bool
-
-abbrev pub nothing_kept : Kept
-nothing_kept = record { goals = []; asked = []; ready = false }
-
--- what a told request makes: a registration's own goal, the default provider before it, and the request with its fate
-pub record Change : Type 0 where
-  pub own : Option Goal
-  pub default : Option Goal
-  pub heard : Heard
-
--- the goals of a change, newest first
-abbrev pub made_by : Change → List Goal
-made_by change = option_list change.own ++ option_list change.default
 
 -- a request that makes no goal and is about none
 abbrev pub unmade : Request → Fate → Change
@@ -42,14 +23,6 @@ accepted_with making request = record {
   own = making.own;
   default = making.default;
   heard = record { request = request; fate = Accepted; about = making.about };
-}
-
--- what is kept, with a change
-abbrev pub with_change : Change → Kept → Kept
-with_change change kept = record {
-  goals = made_by change ++ kept.goals;
-  asked = change.heard ∷ kept.asked;
-  ready = false;
 }
 
 -- a change is what a request of this fate makes of goals and requests

@@ -4,16 +4,17 @@ ghost use Rattle.pl_model.specs.Known.{Known};
 ghost use Rattle.pl_model.specs.Requests as spec;
 ghost use Rattle.pl_model.specs.Run.{rows_of};
 ghost use Rattle.pl_options.specs.Names as names;
+ghost use Rattle.pl_options.specs.Refused.{HasPaths};
 ghost use Rattle.pl_state.specs.References.{keeps_urn};
 ghost use Rattle.pl_urn.specs.Grammar.{IsScope};
 ghost use Rattle.pl_requests.specs.Ids.{known_over};
 ghost use Rattle.pl_requests.specs.Making.{Provides};
 ghost use Rattle.pl_requests.specs.Reading as reading;
 
-use crate::requests::Requests;
 use pl_model::Fixed;
 use pl_options::default_provider_urn;
 use pl_state::{Entry, Goal, KeyedUrns, Urns};
+use pl_told::{Made, Requests};
 use pl_urn::{Urn, UrnFault};
 use pl_value::{Fields, OutOfMemory, Text, Texts, Value};
 use std::alloc::Global;
@@ -22,7 +23,7 @@ use std::alloc::Global;
 #[derive(Debug, Drop)]
 pub struct DefaultProvider {
     /// Its goal, where it does not stand yet.
-    pub missing: Option<Goal>,
+    pub missing: Option<Made>,
     /// The number that it has, or is to have.
     pub number: Option<u64>,
 }
@@ -105,8 +106,9 @@ fn provider_of(
         }),
         None => {
             let goal = default_goal(alloc, run, urn, provided, version)?;
+            let made = Made::new(alloc, goal)?;
             Ok(DefaultProvider {
-                missing: Some(goal),
+                missing: Some(made),
                 number: Some(requests.len()),
             })
         }
@@ -122,9 +124,10 @@ fn default_goal(
     version: Option<&str>,
 ) -> Result<Goal, OutOfMemory>
     requires version { reading.is_known_version (option_copied version) ≡ true }
-    ensures { IfOk result (λ goal. (goals : _) (known : Known)
+    ensures made { IfOk result (λ goal. (goals : _) (known : Known)
         → urn ≡ spec.default_urn (known_over run.now goals known) provided.now (option_copied version.entry)
         → goal ≡ spec.default_goal (known_over run.now goals known) provided.now (option_copied version.entry)) }
+    ensures paths { IfOk result HasPaths }
 {
     let kind = format!(in alloc; "pulumi:providers:{provided}")?;
     let inputs = default_inputs(alloc, run, &urn, version)?;

@@ -2,14 +2,13 @@ ghost use Rattle.std.specs.Prelude.{◌≡◌, IfOk};
 ghost use Rattle.pl_model.specs.Requests as spec;
 ghost use Rattle.pl_urn.specs.Grammar.{IsScope};
 ghost use Rattle.pl_requests.specs.Ids.{ForKnown};
-ghost use Rattle.pl_requests.specs.Column.{IsChangeBy};
+ghost use Rattle.pl_requests.specs.Column.{IsChangeBy, accepted_with, unmade};
 
-use crate::change::Change;
-use crate::making::goals_made;
+use crate::making::{Making, goals_made};
 use crate::refusal::refusal_of;
-use crate::requests::Requests;
 use pl_events::Request;
-use pl_model::{Fate, Fixed};
+use pl_model::{Fate, Fixed, Heard};
+use pl_told::{Change, Requests};
 use pl_value::{OutOfMemory, Text};
 use std::alloc::Global;
 
@@ -46,8 +45,39 @@ pub fn change_by(
     match fate {
         Fate::Accepted => {
             let making = goals_made(alloc, requests, run, request)?;
-            Change::accepted(alloc, request, making)
+            accepted(alloc, request, making)
         }
-        other => Change::unmade(alloc, request, other),
+        other => unmade(alloc, request, other),
     }
+}
+
+/// A request with its fate, which makes no goal.
+fn unmade(alloc: Global, request: &Request, fate: Fate) -> Result<Change, OutOfMemory>
+    ensures { IfOk result (λ change. change ≡ unmade request.now fate) }
+{
+    let request = request.copy(alloc)?;
+    let heard = Heard {
+        request,
+        fate,
+        about: None,
+    };
+    Ok(Change::new(None, None, heard))
+}
+
+/// An accepted request with the goals that it makes.
+fn accepted(alloc: Global, request: &Request, making: Making) -> Result<Change, OutOfMemory>
+    ensures { IfOk result (λ change. change ≡ accepted_with making request.now) }
+{
+    let Making {
+        default,
+        own,
+        about,
+    } = making;
+    let request = request.copy(alloc)?;
+    let heard = Heard {
+        request,
+        fate: Fate::Accepted,
+        about,
+    };
+    Ok(Change::new(default, own, heard))
 }

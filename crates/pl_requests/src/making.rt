@@ -5,6 +5,7 @@ ghost use Rattle.pl_lemmas.specs.Words.{option_list};
 ghost use Rattle.pl_model.specs.Known.{Known};
 ghost use Rattle.pl_model.specs.Requests as spec;
 ghost use Rattle.pl_model.specs.declared.fixed.Fixed as fixed;
+ghost use Rattle.pl_options.specs.Refused.{HasPaths};
 ghost use Rattle.pl_urn.specs.Grammar.{IsScope};
 ghost use Rattle.pl_value.specs.declared.value.Value as value;
 ghost use Rattle.pl_requests.specs.Ids.{known_over};
@@ -12,12 +13,12 @@ ghost use Rattle.pl_requests.specs.Making.{Makes, MakesFor, own_making};
 ghost use Rattle.pl_requests.specs.Reading.{is_known_version};
 
 use crate::default::default_provider;
-use crate::requests::Requests;
 use crate::words::{given, invoked_version, text_in, token_package, uses_default};
 use pl_events::Request;
 use pl_model::Fixed;
 use pl_options::{GoalFault, goal_of};
 use pl_state::{Goal, RefFault, Registration, read_ref};
+use pl_told::{Made, Requests};
 use pl_value::{OutOfMemory, Text};
 use std::alloc::Global;
 
@@ -25,9 +26,9 @@ use std::alloc::Global;
 #[derive(Debug, Drop)]
 pub struct Making {
     /// The default provider that the request needs and that does not stand yet.
-    pub default: Option<Goal>,
+    pub default: Option<Made>,
     /// The goal of a registration.
-    pub own: Option<Goal>,
+    pub own: Option<Made>,
     pub about: Option<u64>,
 }
 
@@ -92,6 +93,7 @@ fn made_of_goal(
     requires stack { IsScope run.now.stack }
     requires project { IsScope run.now.project }
     requires version { is_known_version goal.version ≡ true }
+    requires paths { HasPaths goal }
     ensures { IfOk result (λ making. (known : Known) → spec.goal_refusal (known_over run.now requests.now.goals known) told.now goal ≡ None
         → Makes (known_over run.now requests.now.goals known)
         (spec.with_goal (known_over run.now requests.now.goals known) told.now goal)
@@ -100,21 +102,23 @@ fn made_of_goal(
     if uses_default(told, &goal) {
         let version = text_in(&goal.version);
         let provider = default_provider(alloc, requests, run, goal.urn.package(), version)?;
-        Ok(own_making(requests, provider.missing, goal, provider.number))
+        own_making(alloc, requests, provider.missing, goal, provider.number)
     } else {
         let provider = named_provider(alloc, requests, given(&told.provider))?;
-        Ok(own_making(requests, None, goal, provider))
+        own_making(alloc, requests, None, goal, provider)
     }
 }
 
 /// The default provider that is missing, and after it a goal with the number of its provider.
 fn own_making(
+    alloc: Global,
     requests: &Requests,
-    missing: Option<Goal>,
+    missing: Option<Made>,
     goal: Goal,
     provider: Option<u64>,
-) -> Making
-    ensures { result ≡ own_making requests.now.goals missing goal provider }
+) -> Result<Making, OutOfMemory>
+    requires { HasPaths goal }
+    ensures { IfOk result (λ making. making ≡ own_making requests.now.goals missing goal provider) }
 {
     let about = match &missing {
         None => requests.len(),
@@ -122,11 +126,12 @@ fn own_making(
     };
     let mut goal = goal;
     goal.provider = provider;
-    Making {
+    let own = Made::new(alloc, goal)?;
+    Ok(Making {
         default: missing,
-        own: Some(goal),
+        own: Some(own),
         about: Some(about),
-    }
+    })
 }
 
 /// The number of the goal that a provider reference names, if it is given.

@@ -7,7 +7,6 @@ ghost use Rattle.pl_urn.specs.Grammar.{IsScope, package_of};
 ghost use Rattle.pl_requests.specs.Ids.{ForKnown, known_over};
 
 use crate::default::is_bad_default;
-use crate::requests::Requests;
 use crate::unknown::{is_met_reference, is_reference, unknown_reference};
 use crate::words::{given, invoked_version, is_component, text_in, token_package, uses_default};
 use pl_decide::Problem;
@@ -15,6 +14,7 @@ use pl_events::Request;
 use pl_model::Fixed;
 use pl_options::{GoalFault, goal_of};
 use pl_state::{Goal, OptionFault, Registration};
+use pl_told::Requests;
 use pl_value::{OutOfMemory, Text};
 use std::alloc::Global;
 

@@ -8,9 +8,9 @@ ghost use Rattle.pl_state.specs.References.{further_urns, property_urns};
 ghost use Rattle.pl_requests.specs.Ids.{ForKnown, id_at};
 ghost use Rattle.pl_requests.specs.Reading as reading;
 
-use crate::requests::Requests;
 use crate::words::given;
 use pl_state::{Goal, ProviderRef, RefFault, Registration, Urns, read_ref};
+use pl_told::Requests;
 use pl_urn::Urn;
 use pl_value::{OutOfMemory, Text};
 use std::alloc::Global;

@@ -1,11 +1,9 @@
 ghost use Rattle.std.specs.Prelude.{◌≡◌};
 ghost use Rattle.std.specs.Option.{option_copied};
-ghost use Rattle.pl_model.specs.Known as known;
 ghost use Rattle.pl_model.specs.Requests as spec;
 ghost use Rattle.pl_options.specs.GoalOf as option;
 ghost use Rattle.pl_state.specs.Kinds as kind;
 
-use pl_events::Request;
 use pl_state::{Goal, Registration};
 use pl_urn::{Urn, is_provider_type};
 use pl_value::{Text, unknown_text};
@@ -53,17 +51,6 @@ pub fn token_package(token: &str) -> &str
     match token.split_once(':') {
         Some((package, _)) => package,
         None => token,
-    }
-}
-
-/// A request's number.
-pub fn number_of(request: &Request) -> u64
-    ensures { result ≡ known.number_of request.now }
-{
-    match request {
-        Request::Register { n, .. } => *n,
-        Request::Outputs { n, .. } => *n,
-        Request::Invoke { n, .. } => *n,
     }
 }
 

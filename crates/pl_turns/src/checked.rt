@@ -7,7 +7,7 @@ ghost use Rattle.pl_model.specs.Tickets.{reply_to};
 ghost use Rattle.pl_turns.specs.Seen.{seen_turn};
 
 use crate::turn::Turn;
-use crate::words::{any_unknown, is_preview};
+use crate::words::is_preview;
 use pl_claims::Claims;
 use pl_decide::{is_of_provider, is_provided, is_reading};
 use pl_events::{Op, Reply, Subject};
@@ -72,7 +72,7 @@ fn has_unknown_checked(claims: &Claims, goal: u64) -> bool
 {
     match claims.decided(goal) {
         None => false,
-        Some(one) => any_unknown(one.checked.as_slice()),
+        Some(one) => one.checked.has_unknown(),
     }
 }
 

@@ -2,12 +2,10 @@ ghost use Rattle.std.specs.Prelude.{◌≡◌, option_map};
 ghost use Rattle.std.specs.Option.{option_copied};
 ghost use Rattle.pl_lemmas.specs.Words.{is_row};
 ghost use Rattle.pl_model.specs.Run as run;
-ghost use Rattle.pl_value.specs.Inside as inside;
 
 use pl_model::Mode;
 use pl_state::{Entry, Goal};
 use pl_urn::Urn;
-use pl_value::{Text, Value};
 
 /// Whether a run tells what it would do, and does none of it.
 pub fn is_preview(mode: &Mode) -> bool
@@ -24,13 +22,6 @@ pub fn is_row(claim: Option<u64>, row: u64) -> bool
         None => false,
         Some(own) => own == row,
     }
-}
-
-/// Whether an unknown stands in one of the fields.
-pub fn any_unknown(fields: &[(Text, Value)]) -> bool
-    ensures { result ≡ inside.any_field_unknown fields.now }
-{
-    fields.iter().any(|field| field.1.has_unknown())
 }
 
 /// A goal's URN, if there is a goal.

@@ -1,8 +1,8 @@
 use Rattle.std.proofs.Common.{◌∙◌, List, sym, ap}
 use Rattle.std.specs.List.{slice_get}
 use Rattle.pl_state.specs.declared.goal.Goal.{Goal}
-use Rattle.pl_requests.proofs.Seen.{goal_seen}
-use Rattle.pl_requests.proofs.requests.Requests.goal.Goals as goal
+use Rattle.pl_told.proofs.Seen.{goal_seen}
+use Rattle.pl_told.proofs.stored.Stored.goal.Goals as goal
 
 pub returns : goal.returns
 returns c =

@@ -6,8 +6,8 @@ use Rattle.std.specs.Str.{bytes_eq}
 use Rattle.std.specs.Prelude.{String}
 use Rattle.pl_state.specs.declared.goal.Goal.{Goal}
 use Rattle.pl_model.specs.Claims.{goal_number}
-use Rattle.pl_requests.specs.Index.{FindsGoals}
-use Rattle.pl_requests.proofs.Places.{reverse-push}
+use Rattle.pl_told.specs.Index.{FindsGoals}
+use Rattle.pl_told.proofs.Places.{reverse-push}
 
 pub finds_goal : {Y S : Type 0} (old new : HashMap (String Y) ℕ S) (goals : List Goal) (goal : Goal) → FindsGoals old goals
     → ((urn : List ℕ) → get_by_text new urn ≡ cond (bytes_eq goal.urn urn) (Some (length goals)) (get_by_text old urn))

@@ -1,16 +1,28 @@
-ghost use Rattle.std.specs.Prelude.{◌≡◌, ◌+◌, ◌<◌, ◌≤◌, ◌++◌, [], ◌∷◌, length, nat_eq, slice_get};
+ghost use Rattle.std.specs.Prelude.{◌≡◌, ◌+◌, ◌<◌, ◌≤◌, ◌++◌, [], ◌∷◌, length, nat_eq, reverse, slice_get};
 ghost use Rattle.std.specs.HashMap.{get, get_by_text, spare};
 ghost use Rattle.std.specs.Option.{option_copied};
 ghost use Rattle.std.specs.Vec.{vec_capacity};
 ghost use Rattle.pl_lemmas.specs.Words.{option_list};
 ghost use Rattle.pl_model.specs.Known as known;
-ghost use Rattle.pl_requests.specs.Index.{FindsGoals, FindsRequests};
+ghost use Rattle.pl_told.specs.Index.{FindsGoals, FindsRequests};
+ghost use Rattle.pl_told.specs.Paths.{HaveAllPaths};
 
 use crate::change::Made;
-use crate::words::number_of;
 use indexmap::IndexMap;
+use pl_events::Request;
 use pl_model::Heard;
 use pl_state::Goal;
+
+/// A request's number.
+pub fn number_of(request: &Request) -> u64
+    ensures { result ≡ known.number_of request.now }
+{
+    match request {
+        Request::Register { n, .. } => *n,
+        Request::Outputs { n, .. } => *n,
+        Request::Invoke { n, .. } => *n,
+    }
+}
 
 /// The number that stands under a URN.
 pub fn number_in(numbers: &IndexMap<String, u64>, urn: &str) -> Option<u64>
@@ -45,8 +57,10 @@ pub fn add_goal(goals: &mut Vec<Goal>, numbers: &mut IndexMap<String, u64>, made
     requires room { length goals.old.items < vec_capacity goals.old }
     requires numbers_room { 0 < spare numbers.old }
     requires found { FindsGoals numbers.old goals.old.items }
+    requires paths { HaveAllPaths (reverse goals.old.items) }
     ensures added { goals.new.items ≡ goals.old.items ++ made ∷ [] }
     ensures found { FindsGoals numbers.new goals.new.items }
+    ensures paths { HaveAllPaths (reverse goals.new.items) }
     ensures room { vec_capacity goals.old ≤ vec_capacity goals.new }
     ensures numbers_room { spare numbers.old ≤ spare numbers.new + 1 }
 {
@@ -60,8 +74,10 @@ pub fn add_if(goals: &mut Vec<Goal>, numbers: &mut IndexMap<String, u64>, made: 
     requires room { length goals.old.items < vec_capacity goals.old }
     requires numbers_room { 0 < spare numbers.old }
     requires found { FindsGoals numbers.old goals.old.items }
+    requires paths { HaveAllPaths (reverse goals.old.items) }
     ensures added { goals.new.items ≡ goals.old.items ++ option_list made }
     ensures found { FindsGoals numbers.new goals.new.items }
+    ensures paths { HaveAllPaths (reverse goals.new.items) }
     ensures room { vec_capacity goals.old ≤ vec_capacity goals.new }
     ensures numbers_room { spare numbers.old ≤ spare numbers.new + 1 }
 {
@@ -79,6 +95,8 @@ pub fn add_heard(heard: &mut Vec<Heard>, places: &mut IndexMap<u64, u64>, one: H
     ensures number { result ≡ known.number_of one.request }
     ensures added { heard.new.items ≡ heard.old.items ++ one ∷ [] }
     ensures found { FindsRequests places.new heard.new.items }
+    ensures room { vec_capacity heard.old ≤ vec_capacity heard.new }
+    ensures places_room { spare places.old ≤ spare places.new + 1 }
 {
     let n = number_of(&one.request);
     places.insert(n, heard.len() as u64).unwrap();

@@ -1,0 +1,4 @@
+pub mod Places
+pub mod Indexed
+pub mod Seen
+pub mod Undoing

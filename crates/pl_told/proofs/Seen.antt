@@ -1,0 +1,20 @@
+-- What the value that is seen tells, by the fields behind it.
+use Rattle.std.proofs.Common.{◌≡◌, ℕ, reverse, option_and_then, sym, ap, ◌∙◌}
+use Rattle.std.specs.Bool.{nat_eq}
+use Rattle.std.specs.HashMap.{get}
+use Rattle.std.specs.List.{find, slice_get}
+use Rattle.pl_lemmas.specs.Words.{numbered}
+use Rattle.pl_told.specs.declared.stored.Stored.TheInside.{Inside}
+use Rattle.pl_told.specs.Index.{has_n}
+use Rattle.pl_told.specs.Stored.{IsStored, Standing, stored_by}
+use Rattle.pl_told.proofs.Places.{find-number, numbered-reverse}
+
+module _ (inside : Inside) (holds : IsStored inside) (value : Standing) (seen : stored_by inside ≡ value) where
+  pub goal_seen : (number : ℕ) → numbered value.goals number ≡ slice_get inside.goals.items number
+  goal_seen number = ap (λ (standing : Standing). numbered standing.goals number) (sym seen) ∙ numbered-reverse inside.goals.items number
+
+  pub asked_seen : (n : ℕ) → find (has_n n) value.asked ≡ option_and_then (slice_get inside.heard.items) (get nat_eq inside.places n)
+  asked_seen n =
+      ap (λ (standing : Standing). find (has_n n) standing.asked) (sym seen)
+      ∙ find-number (has_n n) (reverse inside.heard.items)
+      ∙ (λ i. option_and_then (λ place. numbered-reverse inside.heard.items place i) (sym (holds.requests n) i))
