@@ -9,8 +9,10 @@ ghost use Rattle.pl_model.specs.Due as spec;
 ghost use Rattle.pl_model.specs.Known.{is_recorded};
 ghost use Rattle.pl_model.specs.Rows as rows;
 ghost use Rattle.pl_state.specs.References.{further_urns, property_urns};
+ghost use Rattle.pl_ready.specs.Keepers.{AreKeepers};
 
 use crate::carried::op_of_goal;
+use crate::free::urn_is_free;
 use crate::unknown::is_preview;
 use pl_columns::Columns;
 use pl_decide::{Decision, is_delete_first, is_of_provider};
@@ -102,23 +104,23 @@ fn is_refused(decision: &Decision) -> bool
     matches!(decision, Decision::Refused(_))
 }
 
-/// Whether a goal can be recorded; `free` says whether no other old row has its URN.
-pub fn is_placed(columns: &Columns, number: u64, goal: &Goal, one: &Decided, free: bool) -> bool
-    requires { free ≡ spec.urn_is_free (known_by columns.now) goal.now one.now }
+/// Whether a goal can be recorded.
+pub fn is_placed(columns: &Columns, number: u64, goal: &Goal, one: &Decided) -> bool
+    requires keepers { AreKeepers (known_by columns.now) }
     ensures { result ≡ spec.is_placed (known_by columns.now) number goal.now one.now }
 {
     !is_refused(&one.decision)
         && !columns.is_recorded(number)
         && references_recorded(columns, goal)
-        && (is_preview(&columns.run().mode) || free)
+        && (is_preview(&columns.run().mode) || urn_is_free(columns, goal, one))
 }
 
-/// Whether a goal can be kept; `free` is as for `is_placed`.
-pub fn keeps_goal(columns: &Columns, number: u64, goal: &Goal, one: &Decided, free: bool) -> bool
-    requires { free ≡ spec.urn_is_free (known_by columns.now) goal.now one.now }
+/// Whether a goal can be kept.
+pub fn keeps_goal(columns: &Columns, number: u64, goal: &Goal, one: &Decided) -> bool
+    requires keepers { AreKeepers (known_by columns.now) }
     ensures { result ≡ spec.keeps_goal (known_by columns.now) number goal.now one.now }
 {
-    is_placed(columns, number, goal, one, free)
+    is_placed(columns, number, goal, one)
         && op_of_goal(columns, number, goal, one).is_none()
         && provider_stands(columns, number, goal)
 }

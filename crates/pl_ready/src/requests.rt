@@ -3,7 +3,7 @@ ghost use Rattle.std.specs.Option.{option_copied};
 ghost use Rattle.pl_columns.specs.Read.{known_by};
 ghost use Rattle.pl_model.specs.Due as spec;
 
-use crate::unknown::{any_unknown, has_unknown_inputs, is_preview};
+use crate::unknown::{has_unknown_inputs, is_preview};
 use pl_columns::Columns;
 use pl_events::{Op, Reply, Request};
 use pl_model::{Fate, Heard};
@@ -16,7 +16,7 @@ pub fn is_unsent(columns: &Columns, request: &Request, about: Option<u64>) -> bo
     match request {
         Request::Invoke { args, .. } => {
             is_preview(&columns.run().mode)
-                && (any_unknown(args.as_slice()) || has_unknown_inputs(columns, about))
+                && (args.has_unknown() || has_unknown_inputs(columns, about))
         }
         _ => false,
     }

@@ -8,20 +8,12 @@ ghost use Rattle.pl_value.specs.Inside as inside;
 
 use pl_columns::Columns;
 use pl_model::Mode;
-use pl_value::{Text, Value};
 
 /// Whether the run tells what would be done, and does none of it.
 pub fn is_preview(mode: &Mode) -> bool
     ensures { result ≡ run.is_preview mode.now }
 {
     matches!(mode, Mode::Preview)
-}
-
-/// Whether one of the fields holds an unknown.
-pub fn any_unknown(fields: &[(Text, Value)]) -> bool
-    ensures { result ≡ inside.any_field_unknown fields.now }
-{
-    fields.iter().any(|field| field.1.has_unknown())
 }
 
 /// Whether the checked inputs of a provider, by its number, hold an unknown.
@@ -39,6 +31,6 @@ fn has_unknown_checked(columns: &Columns, goal: u64) -> bool
 {
     match columns.decided(goal) {
         None => false,
-        Some(one) => any_unknown(one.checked.as_slice()),
+        Some(one) => one.checked.has_unknown(),
     }
 }
