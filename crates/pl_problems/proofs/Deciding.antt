@@ -1,35 +1,11 @@
 -- What is found for each thing of a list that stands newest first, from a number on.
-use Rattle.std.proofs.Common.{◌≡◌, ◌≤◌, ◌<◌, ◌-◌, ℕ, zero, suc, Bool, false, ◌==◌, if◌then◌else◌, List, [], ◌∷◌, ◌++◌, length, reverse, take, drop, filter_map, Option, Some, None, option_and_then, inl, inr, ◌⊎◌, refl, sym, ap, subst, ◌∙◌, arith}
+use Rattle.std.proofs.Common.{◌≡◌, ◌≤◌, ◌<◌, ◌-◌, ℕ, zero, suc, List, [], ◌∷◌, ◌++◌, length, reverse, take, drop, filter_map, Option, Some, None, option_and_then, inl, inr, ◌⊎◌, refl, sym, ap, subst, ◌∙◌, arith}
 use Rattle.std.proofs.Math.ListN.{drop_of_length-le}
 use Rattle.std.proofs.lemmas.Bool.{cases_lt}
-use Rattle.std.proofs.lemmas.Bool.Decides.{nat_tests}
 use Rattle.std.proofs.lemmas.List.{append-nil, append_assoc, drop_at, length-drop, length-reverse, reverse-append, take-append-drop}
 use Rattle.std.specs.List.{cons_option, slice_get}
 use Rattle.pl_lemmas.specs.Words.{numbered, option_list}
-
--- ---- the other way round
-
-zero_suc : (k : ℕ) → (0 == suc k) ≡ false
-zero_suc k = grind (arith, nat_tests)
-
-suc_zero : (k : ℕ) → (suc k == 0) ≡ false
-suc_zero k = grind (arith, nat_tests)
-
-get_push : {X : Type 0} (xs : List X) (y : X) (k : ℕ) → slice_get (xs ++ y ∷ []) k ≡ (if length xs == k then Some y else slice_get xs k)
-get_push [] y zero = refl
-get_push {X = X} [] y (suc k) = ap (λ (b : Bool). if b then Some y else None) (sym (zero_suc k))
-get_push {X = X} (x ∷ xs) y zero = ap (λ (b : Bool). if b then Some y else Some x) (sym (suc_zero (length xs)))
-get_push {X = X} (x ∷ xs) y (suc k) =
-    let same : (suc (length xs) == suc k) ≡ (length xs == k) = grind (arith, nat_tests) in
-    get_push xs y k ∙ ap (λ (b : Bool). if b then Some y else slice_get xs k) (sym same)
-
-numbered_turned : {X : Type 0} (xs : List X) (n : ℕ) → slice_get (reverse xs) n ≡ numbered xs n
-numbered_turned [] n = refl
-numbered_turned {X = X} (newest ∷ earlier) n =
-    ap (λ (ys : List X). slice_get ys n) (reverse-append (newest ∷ []) earlier)
-    ∙ get_push (reverse earlier) newest n
-    ∙ ap (λ (m : ℕ). if m == n then Some newest else slice_get (reverse earlier) n) (length-reverse earlier)
-    ∙ ap (λ (o : Option X). if length earlier == n then Some newest else o) (numbered_turned earlier n)
+use Rattle.pl_lemmas.proofs.Numbered.{numbered_turned}
 
 -- ---- the steps
 

@@ -7,6 +7,7 @@ use pl_columns::Columns;
 use pl_decide::Problem;
 use pl_urn::Urn;
 use pl_value::OutOfMemory;
+use std::alloc::Global;
 
 /// Adds a problem, if one was found.
 pub fn push_found(problems: &mut Vec<Problem>, found: Option<Problem>) -> Result<(), OutOfMemory>
@@ -16,6 +17,22 @@ pub fn push_found(problems: &mut Vec<Problem>, found: Option<Problem>) -> Result
         problems.push(problem)?;
     }
     Ok(())
+}
+
+/// The problems that were found, of three, in order.
+pub fn three_found(
+    alloc: Global,
+    first: Option<Problem>,
+    second: Option<Problem>,
+    third: Option<Problem>,
+) -> Result<Vec<Problem>, OutOfMemory>
+    ensures { IfOk result (λ problems. problems.items ≡ option_list first ++ (option_list second ++ option_list third)) }
+{
+    let mut problems = Vec::new(alloc);
+    push_found(&mut problems, first)?;
+    push_found(&mut problems, second)?;
+    push_found(&mut problems, third)?;
+    Ok(problems)
 }
 
 /// The URN that a row has in the state at the start.
