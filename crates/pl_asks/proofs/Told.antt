@@ -1,36 +1,22 @@
 -- What the columns tell of an answer, whatever else is known of the run.
-use Rattle.std.proofs.Common.{◌≡◌, ◌&&◌, ◌||◌, ℕ, IfOk, List, Option, Result, Some, None, refl, sym, ap, ◌∙◌}
+use Rattle.std.proofs.Common.{◌≡◌, ℕ, IfOk, List, Option, Result, Some, None, refl, sym, ap, ◌∙◌}
 use Rattle.std.proofs.lemmas.Result.{IfOk-weaker}
 use Rattle.pl_asks.specs.Answered.{TellsAnswers}
 use Rattle.pl_columns.proofs.Read.{recorded_read}
 use Rattle.pl_columns.specs.Read.{known_by}
 use Rattle.pl_columns.specs.declared.columns.Columns.{Columns}
 use Rattle.pl_events.specs.declared.event.Answer.{Answer}
-use Rattle.pl_events.specs.declared.event.Request.{Request}
-use Rattle.pl_events.specs.declared.event.Request.TheVariants.{Register, Outputs, Invoke}
 use Rattle.pl_events.specs.declared.operation.Op.{Op}
 use Rattle.pl_lemmas.specs.Words.{has_number}
-use Rattle.pl_model.specs.Decisions.{has_unknown_inputs}
-use Rattle.pl_model.specs.Due.{is_recorded_about, is_unsent}
+use Rattle.pl_model.specs.Due.{is_recorded_about}
 use Rattle.pl_model.specs.Known.{Known}
-use Rattle.pl_model.specs.Run.{is_preview}
 use Rattle.pl_model.specs.Tickets.{reply_to}
-use Rattle.pl_model.specs.declared.decided.Decided.{Decided}
 use Rattle.pl_model.specs.declared.errand.Closed.{Closed}
-use Rattle.pl_model.specs.declared.fixed.Fixed.{Fixed}
-use Rattle.pl_value.specs.Inside.{any_field_unknown}
 
 module _ (columns : Columns) (known : Known) (tells : TellsAnswers columns known) where
   pub recorded_told : (about : Option ℕ) → is_recorded_about (known_by columns) about ≡ is_recorded_about known about
   recorded_told None = refl
   recorded_told (Some goal) = recorded_read columns goal ∙ ap (λ (numbers : List ℕ). has_number numbers goal) (sym tells.recorded)
-
-  pub unsent_told : (request : Request) (about : Option ℕ) → is_unsent (known_by columns) request about ≡ is_unsent known request about
-  unsent_told (Invoke n token args provider version) about =
-      ap (λ (run : Fixed). is_preview run.mode && (any_field_unknown args || has_unknown_inputs columns.claims.decided about)) (sym tells.run)
-      ∙ ap (λ (decided : List Decided). is_preview known.run.mode && (any_field_unknown args || has_unknown_inputs decided about)) (sym tells.decided)
-  unsent_told (Register n told) about = refl
-  unsent_told (Outputs n urn outputs) about = refl
 
   pub reply_told : (about : Op) → reply_to (known_by columns).answers about ≡ reply_to known.answers about
   reply_told about = ap (λ (answers : List Closed). reply_to answers about) (sym tells.answers)

@@ -49,7 +49,7 @@ pub fn answer_for(
 }
 
 /// The answer to a request without a result.
-fn halted(alloc: Global) -> Result<Answer, OutOfMemory>
+pub fn halted(alloc: Global) -> Result<Answer, OutOfMemory>
     ensures { IfOk result (λ made. made ≡ unanswered.halted) }
 {
     Ok(Answer::Refused(Text::from_str(alloc, "halted")?))

@@ -18,19 +18,12 @@ fn is_preview(mode: &Mode) -> bool
     matches!(mode, Mode::Preview)
 }
 
-/// Whether the unknown stands in one of the fields.
-fn has_unknown(fields: &Fields) -> bool
-    ensures { result ≡ any_field_unknown fields.now }
-{
-    fields.as_slice().iter().any(|field| field.1.has_unknown())
-}
-
 /// Whether the checked inputs of a goal hold the unknown.
 fn has_unknown_checked(columns: &Columns, number: u64) -> bool
     ensures { result ≡ some_passes (λ one. any_field_unknown one.checked) (known.decided_goal (known_by columns.now) number) }
 {
     match columns.decided(number) {
-        Some(one) => has_unknown(&one.checked),
+        Some(one) => one.checked.has_unknown(),
         None => false,
     }
 }
@@ -64,7 +57,7 @@ fn lacks_inputs(columns: &Columns, args: &Fields, about: Option<u64>) -> bool
 fn is_unknown(columns: &Columns, args: &Fields, about: Option<u64>) -> bool
     ensures { result ≡ (any_field_unknown args.now || decisions.has_unknown_inputs columns.now.claims.decided about) }
 {
-    has_unknown(args) || has_unknown_inputs(columns, about)
+    args.has_unknown() || has_unknown_inputs(columns, about)
 }
 
 /// Whether a goal that a request is about is recorded.

@@ -1,0 +1,4 @@
+pub mod Kept
+pub mod Posted
+pub mod Dues
+pub mod Entries
