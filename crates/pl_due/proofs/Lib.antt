@@ -1,0 +1,14 @@
+pub mod Turning
+pub mod Limits
+pub mod Orders
+pub mod Folding
+pub mod Finding
+pub mod Passing
+pub mod Listing
+pub mod Told
+pub mod Configuring
+pub mod Sending
+pub mod Taken
+pub mod Over
+pub mod Chosen
+pub mod Summed

@@ -1,0 +1,4 @@
+pub mod Seen
+pub mod Now
+pub mod Chosen
+pub mod Summed
