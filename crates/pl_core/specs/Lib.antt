@@ -1,0 +1,5 @@
+pub mod Course
+pub mod Kept
+pub mod Room
+pub mod Laws
+pub mod Core
