@@ -1,8 +1,8 @@
 pub mod Plain
 pub mod PlainTickets
 pub mod Alike
-mod Settling
-mod Unchanged
+pub mod Settling
+pub mod Unchanged
 mod Steps
 mod Reading
 pub mod Lanes
