@@ -167,6 +167,23 @@ module _ (rows : List Row) (lanes : List Lane) (errand : Errand) (agree : AgreeL
       lost = λ lane. more_lost lane ∙ sym (passes-push (λ one. one.lost) lanes fresh lane refl);
     }
 
+-- ---- the lane of an operation
+
+-- it is there
+module _ (rows : List Row) (lanes : List Lane) (agree : AgreeLanes rows lanes) (ticket : ℕ) (errand : Errand)
+    (here : slice_get (errands_in rows) ticket ≡ Some errand) where
+  lane_there : (o : Option Lane) → (found : Errand) → find (λ one. one.lane == errand.lane) (errands_in rows) ≡ Some found
+      → first_source (errands_in rows) errand.lane ≡ option_map (λ one. one.source) o → (lane : Lane) × (o ≡ Some lane)
+  lane_there (Some lane) found is first = (lane, refl)
+  lane_there None found is first =
+      absurd (let e : Some (source_begun found.op) ≡ None = sym (ap (option_map (λ one. source_begun one.op)) is) ∙ first in cc)
+
+  pub lane_of : (lane : Lane) × (slice_get lanes errand.lane ≡ Some lane)
+  lane_of =
+      let own : (errand.lane == errand.lane) ≡ true = grind (arith, nat_tests) in
+      let found = any-found (λ one. one.lane == errand.lane) (errands_in rows) ticket errand here own in
+      lane_there (slice_get lanes errand.lane) found.0 found.1 (agree.first errand.lane)
+
 -- ---- one operation less
 
 module _ (rows : List Row) (lanes : List Lane) (ticket : ℕ) (errand : Errand) (agree : AgreeLanes rows lanes)
@@ -175,19 +192,10 @@ module _ (rows : List Row) (lanes : List Lane) (ticket : ℕ) (errand : Errand) 
   begun = record { errand = errand; standing = standing.Open }
 
   -- the lane of an open ticket is there, and is out
-  lane_there : (o : Option Lane) → (found : Errand) → find (λ one. one.lane == errand.lane) (errands_in rows) ≡ Some found
-      → first_source (errands_in rows) errand.lane ≡ option_map (λ one. one.source) o → (lane : Lane) × (o ≡ Some lane)
-  lane_there (Some lane) found is first = (lane, refl)
-  lane_there None found is first =
-      absurd (let e : Some (source_begun found.op) ≡ None = sym (ap (option_map (λ one. source_begun one.op)) is) ∙ first in cc)
-
   pub closing_lane : (lane : Lane) × (slice_get lanes errand.lane ≡ Some lane)
   closing_lane =
-      let here : slice_get (errands_in rows) ticket ≡ Some errand =
-      slice_get-map (λ row. row.errand) rows ticket ∙ ap (option_map (λ row. row.errand)) is in
-      let own : (errand.lane == errand.lane) ≡ true = grind (arith, nat_tests) in
-      let found = any-found (λ one. one.lane == errand.lane) (errands_in rows) ticket errand here own in
-      lane_there (slice_get lanes errand.lane) found.0 found.1 (agree.first errand.lane)
+      lane_of rows lanes agree ticket errand
+      (slice_get-map (λ row. row.errand) rows ticket ∙ ap (option_map (λ row. row.errand)) is)
 
   one_out : 1 ≤ count_by (is_on errand.lane) rows
   one_out =

@@ -4,6 +4,8 @@ pub mod Events
 pub mod RowSteps
 pub mod LaneSteps
 pub mod Steps
+mod Reopening
+mod Undoing
 pub mod Reading
 pub mod Looking
 pub mod Seen

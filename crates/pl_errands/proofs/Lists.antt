@@ -4,13 +4,15 @@ use Rattle.std.proofs.lemmas.Bool.Decides.{nat_tests}
 use Rattle.std.proofs.lemmas.List.{reverse-append}
 use Rattle.std.proofs.lemmas.List.Folds.{list_any-append}
 use Rattle.std.proofs.lemmas.List.Sums.{sum_by-append, sum_by-cons}
-use Rattle.std.specs.List.{count_by, filter, find, list_any, slice_get, slice_set, sum_by}
+use Rattle.std.specs.Bool.{nat_eq}
+use Rattle.std.specs.List.{AllByRecursion, count_by, filter, find, list_any, slice_get, slice_set, sum_by}
 use Rattle.std.specs.Option.{option_or}
 use Rattle.std.proofs.Math.Bool.{or-false, or_comm}
 use Rattle.std.proofs.lemmas.Option.{same_Some}
-use Rattle.pl_lemmas.proofs.Truth.{or_either}
+use Rattle.pl_lemmas.proofs.Numbers.{turned_number}
+use Rattle.pl_lemmas.proofs.Truth.{neither_left, neither_right, or_either}
 use Rattle.pl_value.specs.Inside.{greatest}
-use Rattle.pl_lemmas.specs.Words.{some_passes}
+use Rattle.pl_lemmas.specs.Words.{has_number, some_passes}
 
 zero_suc : (k : ℕ) → (0 == suc k) ≡ false
 zero_suc k = grind (arith, nat_tests)
@@ -138,6 +140,22 @@ each-set (z ∷ xs) zero y P h here (suc place) x is = h (suc place) x is
 each-set (z ∷ xs) (suc t) y P h here zero x is = h 0 x is
 each-set (z ∷ xs) (suc t) y P h here (suc place) x is =
     each-set xs t y (λ at. P (suc at)) (each-tail z xs P h) here place x is
+
+-- ---- numbers that stand once
+
+-- a number that is not there is apart from each
+pub apart_from : (n : ℕ) (numbers : List ℕ) → has_number numbers n ≡ false → AllByRecursion (λ other. nat_eq n other ≡ false) numbers
+apart_from n [] none = tt
+apart_from n (other ∷ numbers) none = (
+  turned_number n other ∙ neither_left (other == n) (has_number numbers n) none,
+  apart_from n numbers (neither_right (other == n) (has_number numbers n) none),
+)
+
+-- a number that is apart from each is not there
+pub none_apart : (n : ℕ) (numbers : List ℕ) → AllByRecursion (λ other. nat_eq n other ≡ false) numbers → has_number numbers n ≡ false
+none_apart n [] apart = refl
+none_apart n (other ∷ numbers) apart =
+    λ i. (sym (turned_number n other) ∙ apart.0) i || none_apart n numbers apart.1 i
 
 -- ---- one more element
 

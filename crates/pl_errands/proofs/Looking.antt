@@ -1,14 +1,16 @@
 -- What is kept of operations to look them up, with one operation begun more and one answered.
-use Rattle.std.proofs.Common.{◌≡◌, ◌+◌, ℕ, zero, suc, Bool, true, false, ◌||◌, cond, List, [], ◌∷◌, ◌++◌, length, Option, Some, None, option_map, refl, sym, ap, subst, ◌∙◌, arith}
+use Rattle.std.proofs.Common.{◌≡◌, ◌<◌, ◌+◌, ℕ, zero, suc, Bool, true, false, ◌||◌, cond, if◌then◌else◌, List, [], ◌∷◌, ◌++◌, length, Option, Some, None, option_map, refl, sym, ap, subst, ◌∙◌, arith}
+use Rattle.std.proofs.lemmas.Bool.Decides.{nat_tests}
 use Rattle.std.proofs.lemmas.Iterator.Adapters.{position_from-zero}
 use Rattle.std.proofs.lemmas.List.Folds.{find_at, list_any-append}
 use Rattle.std.proofs.lemmas.Option.{same_Some}
 use Rattle.std.specs.HashMap.{HashMap}
 use Rattle.std.specs.List.{find, list_any, position, position_from, position_or_len, slice_get, slice_set}
-use Rattle.std.specs.Option.{is_some, option_and_then, option_or}
+use Rattle.std.specs.Option.{IfSome, is_some, option_and_then, option_or}
 use Rattle.std.specs.Prelude.{nat_lt}
 use Rattle.pl_lemmas.proofs.Lists.{any_mapped}
-use Rattle.pl_lemmas.proofs.Options.{or_none}
+use Rattle.pl_lemmas.proofs.Numbers.{less_true}
+use Rattle.pl_lemmas.proofs.Options.{neither, or_none}
 use Rattle.pl_events.specs.declared.operation.Op.{Op}
 use Rattle.pl_model.specs.declared.errand.Errand.{Errand}
 use Rattle.pl_model.specs.Tickets.{same_op}
@@ -17,7 +19,7 @@ use Rattle.pl_errands.specs.declared.row.Replied.{Replied}
 use Rattle.pl_errands.specs.declared.row.Row.{Row}
 use Rattle.pl_errands.specs.declared.row.Standing.{Standing}
 use Rattle.pl_errands.specs.declared.row.Standing.TheVariants as standing
-use Rattle.pl_errands.specs.Index.{AgreeIndex, kept_of}
+use Rattle.pl_errands.specs.Index.{AgreeIndex, kept_of, only_before, place_in}
 use Rattle.pl_errands.specs.SameOps.{ops_equal}
 use Rattle.pl_errands.proofs.Lists.{map-set_same}
 
@@ -104,6 +106,28 @@ answered_first (Some first) false n h = sym (or_none first)
 answered_first None true n h = absurd (let e : false ≡ true = h refl in cc)
 answered_first None false n h = refl
 
+-- the first element of a kind stands before the end
+placed_within : {X : Type 0} (test : X → Bool) (xs : List X) → IfSome (position test xs) (λ k. k < length xs)
+placed_within test xs = by (nat_lt (position_or_len test xs) (length xs)) refl
+  where
+    by : (b : Bool) → nat_lt (position_or_len test xs) (length xs) ≡ b
+        → IfSome (cond b (Some (position_or_len test xs)) None) (λ k. k < length xs)
+    by true is = let h : nat_lt (position_or_len test xs) (length xs) ≡ true = is in grind (arith, nat_tests)
+    by false is = tt
+
+before_end : (first : Option ℕ) (n : ℕ) → IfSome first (λ k. k < n) → only_before n (option_or first (Some n)) ≡ first
+before_end None n within =
+    let past : nat_lt n n ≡ false = grind (arith, nat_tests) in
+    ap (λ (b : Bool). if b then Some n else None) past
+before_end (Some k) n within = ap (λ (b : Bool). if b then Some k else None) (less_true k n within)
+
+dropped_first : (kept : Option (Option ℕ)) (b : Bool) (n : ℕ) (rest : Option ℕ) → IfSome rest (λ k. k < n)
+    → option_and_then (λ first. first) kept ≡ option_or rest (cond b (Some n) None)
+    → option_and_then (λ first. first) (option_map (λ first. cond b (only_before n first) first) kept) ≡ rest
+dropped_first None b n rest within e = sym ((neither rest (cond b (Some n) None) (sym e)).0)
+dropped_first (Some first) true n rest within e = ap (only_before n) e ∙ before_end rest n within
+dropped_first (Some first) false n rest within e = e ∙ or_none rest
+
 -- ---- what is kept of all of them
 
 -- an operation that is begun again
@@ -150,21 +174,59 @@ module _ {S : Type 0} (index new : HashMap Key (Option ℕ) S) (rows : List Row)
         ∙ sym (place_pushed (λ (other : Replied). same_op other.closed.op about) replies one);
   }
 
+same_mapped : {X : Type 0} (o : Option X) → o ≡ option_map (λ x. x) o
+same_mapped None = refl
+same_mapped (Some x) = refl
+
+-- one operation's first reply is dropped, and the others stay
+pub dropped_kept : {S : Type 0} (index new : HashMap Key (Option ℕ) S) (about : Op) (place : ℕ) (first : Option ℕ) → Some first ≡ kept_of index about
+    → ((other : Op) → kept_of new other ≡ cond (same_op about other) (Some (only_before place first)) (kept_of index other))
+    → (other : Op) → kept_of new other ≡ option_map (λ it. cond (same_op about other) (only_before place it) it) (kept_of index other)
+dropped_kept index new about place first was written other = written other ∙ by (same_op about other) refl
+  where
+    by : (b : Bool) → same_op about other ≡ b
+        → cond b (Some (only_before place first)) (kept_of index other) ≡ option_map (λ it. cond b (only_before place it) it) (kept_of index other)
+    by true same = ap (option_map (only_before place)) (was ∙ ap (kept_of index) (ops_equal about other same))
+    by false apart = same_mapped (kept_of index other)
+
+-- an operation whose newest reply is taken back
+pub dropped_index : {S : Type 0} (index new : HashMap Key (Option ℕ) S) (rows : List Row) (replies : List Replied) (one : Replied)
+    → AgreeIndex index rows (replies ++ one ∷ [])
+    → ((about : Op) → kept_of new about
+    ≡ option_map (λ first. cond (same_op one.closed.op about) (only_before (length replies) first) first) (kept_of index about))
+    → AgreeIndex new rows replies
+dropped_index index new rows replies one agree kept = record {
+  begun = λ about.
+      ap is_some (kept about)
+      ∙ answered_some (λ first. cond (same_op one.closed.op about) (only_before (length replies) first) first) (kept_of index about)
+      ∙ agree.begun about;
+  first = λ about.
+      ap (option_and_then (λ place. place)) (kept about)
+      ∙ dropped_first (kept_of index about) (same_op one.closed.op about) (length replies)
+      (place_in replies about) (placed_within (λ (other : Replied). same_op other.closed.op about) replies)
+      (agree.first about ∙ place_pushed (λ (other : Replied). same_op other.closed.op about) replies one);
+}
+
 -- rows of the same operations
-pub set_index : {S : Type 0} (index : HashMap Key (Option ℕ) S) (rows : List Row) (replies : List Replied) (ticket : ℕ) (errand : Errand) (became : Standing)
-    → slice_get rows ticket ≡ Some (record { errand = errand; standing = standing.Open }) → AgreeIndex index rows replies
-    → AgreeIndex index (slice_set rows ticket (record { errand = errand; standing = became })) replies
-set_index index rows replies ticket errand became was agree = record {
+pub set_index_of : {S : Type 0} (index : HashMap Key (Option ℕ) S) (rows : List Row) (replies : List Replied) (ticket : ℕ) (was row : Row)
+    → slice_get rows ticket ≡ Some was → row.errand ≡ was.errand → AgreeIndex index rows replies → AgreeIndex index (slice_set rows ticket row) replies
+set_index_of index rows replies ticket was row is same agree = record {
   begun = λ about. agree.begun about ∙ sym (any_set about);
   first = agree.first;
 }
   where
-    any_set : (about : Op) → list_any (λ row. same_op row.errand.op about) (slice_set rows ticket (record { errand = errand; standing = became })) ≡ list_any (λ row. same_op row.errand.op about) rows
+    any_set : (about : Op) → list_any (λ one. same_op one.errand.op about) (slice_set rows ticket row) ≡ list_any (λ one. same_op one.errand.op about) rows
     any_set about =
-        sym (any_mapped (λ (one : Errand). same_op one.op about) (λ (row : Row). row.errand) (slice_set rows ticket (record { errand = errand; standing = became })))
-        ∙ ap (list_any (λ (one : Errand). same_op one.op about))
-        (map-set_same (λ (row : Row). row.errand) rows ticket (record { errand = errand; standing = standing.Open }) (record { errand = errand; standing = became }) was refl)
-        ∙ any_mapped (λ (one : Errand). same_op one.op about) (λ (row : Row). row.errand) rows
+        sym (any_mapped (λ (one : Errand). same_op one.op about) (λ (one : Row). one.errand) (slice_set rows ticket row))
+        ∙ ap (list_any (λ (one : Errand). same_op one.op about)) (map-set_same (λ (one : Row). one.errand) rows ticket was row is same)
+        ∙ any_mapped (λ (one : Errand). same_op one.op about) (λ (one : Row). one.errand) rows
+
+pub set_index : {S : Type 0} (index : HashMap Key (Option ℕ) S) (rows : List Row) (replies : List Replied) (ticket : ℕ) (errand : Errand) (became : Standing)
+    → slice_get rows ticket ≡ Some (record { errand = errand; standing = standing.Open }) → AgreeIndex index rows replies
+    → AgreeIndex index (slice_set rows ticket (record { errand = errand; standing = became })) replies
+set_index index rows replies ticket errand became was agree =
+    set_index_of index rows replies ticket (record { errand = errand; standing = standing.Open }) (record { errand = errand; standing = became })
+    was refl agree
 
 pub index_of_same : {S : Type 0} (index : HashMap Key (Option ℕ) S) {rows others : List Row} {replies more : List Replied} → rows ≡ others → replies ≡ more
     → AgreeIndex index rows replies → AgreeIndex index others more

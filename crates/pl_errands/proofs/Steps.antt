@@ -1,10 +1,12 @@
 -- What is kept with one operation more, one answered and one lost.
-use Rattle.std.proofs.Common.{◌≡◌, ◌<◌, ◌≤◌, ◌+◌, ◌-◌, ℕ, Bool, true, false, cond, if◌then◌else◌, nat_lt, List, [], ◌∷◌, ◌++◌, length, Some, refl, sym, ap, subst, ◌∙◌, inl, inr, arith, get_or}
+use Rattle.std.proofs.Common.{◌≡◌, ◌<◌, ◌≤◌, ◌+◌, ◌-◌, ℕ, Bool, true, false, cond, if◌then◌else◌, nat_lt, List, [], ◌∷◌, ◌++◌, length, None, Some, refl, sym, ap, subst, ◌∙◌, inl, inr, arith, get_or}
 use Rattle.std.proofs.lemmas.Bool.Decides.{nat_tests}
 use Rattle.std.proofs.lemmas.List.{length_push}
 use Rattle.std.proofs.lemmas.List.Sums.{get_or-le-sum_by, sum_by-set, sum_by_push}
 use Rattle.std.proofs.lemmas.Option.{get_or_from_slice_get, slice_get_cases, slice_get_within}
-use Rattle.std.specs.List.{count_by, slice_get, slice_set}
+use Rattle.std.proofs.lemmas.Map.Keys.{IsDistinct-cons}
+use Rattle.std.specs.Bool.{nat_eq}
+use Rattle.std.specs.List.{IsDistinct, count_by, slice_get, slice_set}
 use Rattle.pl_lemmas.specs.Words.{some_passes}
 use Rattle.pl_events.specs.declared.reply.Reply.{Reply}
 use Rattle.pl_events.specs.declared.reply.Reply.TheVariants as reply
@@ -16,13 +18,34 @@ use Rattle.pl_errands.specs.declared.row.Standing.{Standing}
 use Rattle.pl_errands.specs.declared.row.Standing.TheVariants as standing
 use Rattle.pl_errands.specs.Agree.{AreKept}
 use Rattle.pl_errands.specs.Lanes.{AgreeLanes, changed_at, closed_by, is_out_lane, new_lane, one_more, with_one_more}
-use Rattle.pl_errands.specs.Rows.{AgreeRows, is_open, is_open_row, standing_of}
+use Rattle.pl_errands.specs.Rows.{AgreeRows, is_answered, is_open, is_open_row, standing_of, tickets_by}
+use Rattle.pl_errands.specs.Tickets.{Tickets}
 use Rattle.pl_errands.proofs.LaneSteps.{begun_next, begun_there, changed-at, closed_lanes, closing_lane, lane_out}
-use Rattle.pl_errands.proofs.Lists.{set-length}
+use Rattle.pl_errands.proofs.Lists.{apart_from, set-length}
 use Rattle.pl_errands.proofs.RowSteps.{answered_rows, answered_tickets, begun_numbered, begun_rows, closed_numbered, lost_rows, lost_tickets}
 
 abbrev open_row : Errand → Row
 open_row errand = record { errand = errand; standing = standing.Open }
+
+none_twice : IsDistinct nat_eq []
+unfolding IsDistinct
+none_twice = tt
+
+pub none_kept : AreKept [] [] [] [] 0
+none_kept = record {
+  numbered = λ place row there. absurd (let none : None ≡ Some row = there in cc);
+  rows_agree = record { answered = λ number. refl; lost = λ number. refl; configured = λ number. refl };
+  once = none_twice;
+  lanes_agree = record {
+    count = refl;
+    first = λ lane. refl;
+    out = λ lane. refl;
+    configured = λ lane. refl;
+    lost = λ lane. refl;
+  };
+  open_count = refl;
+  closed_count = refl;
+}
 
 module _ (rows : List Row) (replies : List Replied) (lost : List ℕ) (lanes : List Lane) (open_tickets : ℕ)
     (kept : AreKept rows replies lost lanes open_tickets) where
@@ -52,6 +75,7 @@ module _ (rows : List Row) (replies : List Replied) (lost : List ℕ) (lanes : L
   begun_kept errand next within = record {
     numbered = begun_numbered rows replies lost errand kept.numbered next;
     rows_agree = begun_rows rows replies lost errand kept.rows_agree;
+    once = kept.once;
     lanes_agree = begun_lanes errand within;
     open_count = sum_by_push (λ row. cond (is_open_row row) 1 0) rows (open_row errand) ∙ ap (λ (n : ℕ). n + 1) kept.open_count;
     closed_count =
@@ -115,6 +139,11 @@ module _ (rows : List Row) (replies : List Replied) (lost : List ℕ) (lanes : L
       rows_agree = subst (AgreeRows (slice_set rows ticket (record { errand = errand; standing = standing_of told })))
           (sym (answered_tickets rows replies lost ticket errand told was kept.numbered))
           (answered_rows rows replies lost ticket errand told was kept.rows_agree);
+      once = subst (λ (told : Tickets). IsDistinct nat_eq told.answered)
+          (sym (answered_tickets rows replies lost ticket errand told was kept.numbered))
+          (IsDistinct-cons nat_eq ticket (tickets_by rows replies lost).answered
+          (apart_from ticket (tickets_by rows replies lost).answered
+          (kept.rows_agree.answered ticket ∙ ap (some_passes (λ row. is_answered row.standing)) was)) kept.once);
       lanes_agree = closing_lanes (standing_of told) (is_closing told);
       open_count = closed_count (standing_of told) (is_closing told);
       closed_count =
@@ -132,6 +161,7 @@ module _ (rows : List Row) (replies : List Replied) (lost : List ℕ) (lanes : L
       rows_agree = subst (AgreeRows (slice_set rows ticket (record { errand = errand; standing = standing.Lost })))
           (sym (lost_tickets rows replies lost ticket errand was))
           (lost_rows rows replies lost ticket errand was kept.rows_agree);
+      once = kept.once;
       lanes_agree = closing_lanes standing.Lost refl;
       open_count = closed_count standing.Lost refl;
       closed_count =

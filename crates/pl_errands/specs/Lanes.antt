@@ -31,6 +31,10 @@ closed_by standing lane = record {
   lost = is_lost standing || lane.lost;
 }
 
+-- a lane with one operation open again, and whether it is configured then
+abbrev pub open_again : Bool → Lane → Lane
+open_again configured lane = record lane { out = lane.out + 1; configured = configured }
+
 abbrev pub is_from : Source → Lane → Bool
 is_from wanted lane = is_source lane.source wanted
 
@@ -62,6 +66,10 @@ with_one_more lane about lanes =
 abbrev pub out_of : Option Lane → ℕ
 out_of lane = unwrap_or (option_map (λ one. one.out) lane) 0
 
+-- whether an operation of a lane configured it
+abbrev pub is_configured_in : List Row → ℕ → Bool
+is_configured_in rows lane = list_any (λ row. row.errand.lane == lane && is_configured row.standing) rows
+
 -- the source of the first of these operations on a lane, if there is one
 abbrev pub first_source : List Errand → ℕ → Option (Option Source)
 first_source errands lane = option_map (λ errand. source_begun errand.op) (find (λ errand. errand.lane == lane) errands)
@@ -75,7 +83,6 @@ pub record AgreeLanes (rows : List Row) (lanes : List Lane) : Type 0 where
   pub count : greatest (map (λ errand. errand.lane + 1) (errands_in rows)) ≡ length lanes
   pub first : (lane : ℕ) → first_source (errands_in rows) lane ≡ option_map (λ one. one.source) (slice_get lanes lane)
   pub out : (lane : ℕ) → count_by (λ row. row.errand.lane == lane && is_open_row row) rows ≡ out_of (slice_get lanes lane)
-  pub configured : (lane : ℕ) → list_any (λ row. row.errand.lane == lane && is_configured row.standing) rows
-      ≡ some_passes (λ one. one.configured) (slice_get lanes lane)
+  pub configured : (lane : ℕ) → is_configured_in rows lane ≡ some_passes (λ one. one.configured) (slice_get lanes lane)
   pub lost : (lane : ℕ) → list_any (λ row. row.errand.lane == lane && is_lost row.standing) rows
       ≡ some_passes (λ one. one.lost) (slice_get lanes lane)

@@ -1,4 +1,5 @@
 pub mod Tickets
+pub mod Undone
 pub mod Rows
 pub mod Lanes
 pub mod Agree

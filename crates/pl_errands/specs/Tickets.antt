@@ -1,5 +1,5 @@
 -- The tickets of a history by themselves: what is kept of them, and what an event changes.
-use Rattle.std.specs.Prelude.{ℕ, Bool, false, List, [], ◌∷◌, ◌++◌, map}
+use Rattle.std.specs.Prelude.{ℕ, Bool, false, if◌then◌else◌, Option, option_map, List, [], ◌∷◌, ◌++◌, drop, map}
 use Rattle.std.specs.List.{cons_option}
 use Rattle.pl_events.specs.declared.event.Event.{Event}
 use Rattle.pl_events.specs.declared.event.What.{What}
@@ -8,7 +8,8 @@ use Rattle.pl_events.specs.declared.operation.Op.{Op}
 use Rattle.pl_events.specs.declared.reply.Reply.{Reply}
 use Rattle.pl_model.specs.declared.errand.Closed.{Closed}
 use Rattle.pl_model.specs.declared.errand.Errand.{Errand}
-use Rattle.pl_model.specs.Tickets.{closed_by}
+use Rattle.pl_model.specs.Tickets.{closed_by, is_configured_reply}
+use Rattle.pl_lemmas.specs.Words.{first_in}
 use Rattle.pl_model.specs.Step.{Summary, configured_by, plain_begin, plain_loss, plain_reply, plain_word}
 
 -- what a history tells of its tickets, newest first: the operations that were begun; the tickets that were answered,
@@ -56,6 +57,22 @@ with_answer ticket reply tickets = record tickets {
 
 abbrev pub with_loss : ℕ → Tickets → Tickets
 with_loss ticket tickets = record tickets { lost = ticket ∷ tickets.lost }
+
+-- ---- one answer less
+
+-- the reply that came last
+abbrev pub newest_reply : Tickets → Option Reply
+newest_reply tickets = option_map (λ one. one.reply) (first_in tickets.answers)
+
+-- without the newest answer
+abbrev pub without_answer : Tickets → Tickets
+without_answer tickets = record tickets {
+  answered = drop 1 tickets.answered;
+  configured = if is_configured_reply (newest_reply tickets) then drop 1 tickets.configured else tickets.configured;
+  answers = drop 1 tickets.answers;
+}
+
+-- ---- an event
 
 -- what an event changes: three kinds of events, and no other
 abbrev pub tickets_after : ℕ → What → Tickets → Tickets

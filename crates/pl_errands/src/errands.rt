@@ -1,14 +1,17 @@
 ghost use Rattle.std.specs.Prelude.{◌≡◌, ◌≤◌, false, is_some, length, OnErr, OnOk, IfOk, slice_get, true};
 ghost use Rattle.std.specs.List.{list_any};
 ghost use Rattle.std.specs.Option.{option_copied};
-ghost use Rattle.pl_errands.specs.Tickets.{events_of, nothing_kept, with_answer, with_begun, with_loss};
+ghost use Rattle.pl_errands.specs.Tickets.{events_of, newest_reply, nothing_kept, with_answer, with_begun, with_loss, without_answer};
 ghost use Rattle.pl_model.specs.Tickets as spec;
 
-use crate::index::{Index, first_place, has_op, keep_begun, keep_reply};
+use crate::index::{Index, drop_reply, first_place, has_op, keep_begun, keep_reply};
 use crate::lane::{
-    Lane, add_to_lane, any_coming, any_configured, count_from, free_place, lane_at, take_from_lane,
+    Lane, add_to_lane, any_coming, any_configured, count_from, free_place, give_to_lane, lane_at,
+    take_from_lane,
 };
-use crate::row::{Replied, Row, Standing, close, replied_at, row_at, standing_of};
+use crate::row::{
+    Replied, Row, Standing, close, is_configured_by, reopen, replied_at, row_at, standing_of,
+};
 use pl_events::{Op, Reply, Source};
 use pl_model::{Closed, Errand};
 use pl_value::OutOfMemory;
@@ -130,6 +133,20 @@ impl Errands {
             reply,
         };
         self.replies.push(Replied { ticket, closed }).unwrap();
+    }
+
+    /// Takes the newest answer back, if there is one, and gives its reply: its ticket is open again. Takes no memory.
+    pub fn retract_answer(&mut self) -> Option<Reply>
+        ensures reply { result ≡ newest_reply self.old.tickets }
+        ensures retracted { self.new ≡ record self.old { tickets = without_answer self.old.tickets } }
+    {
+        let newest = self.replies.pop()?;
+        let errand = reopen(&mut self.rows, newest.ticket);
+        let configured = is_configured_by(self.rows.as_slice(), errand.lane);
+        give_to_lane(&mut self.lanes, errand.lane, configured);
+        drop_reply(&mut self.index, newest.closed.op, self.replies.len());
+        self.open_tickets += 1;
+        Some(newest.closed.reply)
     }
 
     /// No reply to an open ticket will come; takes no memory.

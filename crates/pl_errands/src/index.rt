@@ -1,7 +1,7 @@
 ghost use Rattle.std.specs.Prelude.{◌≡◌, ◌<◌, if◌then◌else◌, is_some, None, option_and_then, option_map, Some};
 ghost use Rattle.std.specs.HashMap.{spare};
 ghost use Rattle.std.specs.Option.{option_or};
-ghost use Rattle.pl_errands.specs.Index.{kept_of};
+ghost use Rattle.pl_errands.specs.Index.{kept_of, only_before as before};
 ghost use Rattle.pl_events.specs.declared.operation.Op.{Op as Operation};
 ghost use Rattle.pl_model.specs.Tickets.{same_op as is_same_op};
 
@@ -35,6 +35,27 @@ pub fn keep_reply(index: &mut Index, op: Op, place: usize)
         if first.is_none() {
             *first = Some(place);
         }
+    }
+}
+
+/// Forgets the place of a reply to an operation, if it is the first one; takes no memory.
+pub fn drop_reply(index: &mut Index, op: Op, place: usize)
+    ensures kept { (other : Operation) → kept_of index.new other
+        ≡ option_map (λ first. if is_same_op op other then before place first else first) (kept_of index.old other) }
+    ensures room { spare index.new ≡ spare index.old }
+{
+    if let Some(first) = index.get_mut(&Key { op }) {
+        *first = only_before(place, *first);
+    }
+}
+
+/// The first place, if it lies before another one.
+fn only_before(place: usize, first: Option<usize>) -> Option<usize>
+    ensures { result ≡ before place first }
+{
+    match first {
+        Some(at) if at < place => Some(at),
+        _ => None,
     }
 }
 

@@ -1,4 +1,4 @@
-ghost use Rattle.std.specs.Prelude.{◌≡◌, ◌+◌, ◌<◌, ◌≤◌, ◌^◌, ◌&&◌, ℕ, count_by, length, position, slice_get, true};
+ghost use Rattle.std.specs.Prelude.{◌≡◌, ◌+◌, ◌<◌, ◌≤◌, ◌^◌, ◌&&◌, ℕ, count_by, is_some, length, position, slice_get, true};
 ghost use Rattle.std.specs.List.{list_any};
 ghost use Rattle.std.specs.Vec.{vec_capacity};
 ghost use Rattle.pl_errands.specs.Lanes as spec;
@@ -88,6 +88,18 @@ pub fn take_from_lane(lanes: &mut Vec<Lane>, lane: u64, standing: Standing)
         Standing::Lost => child.lost = true,
         _ => {}
     }
+}
+
+/// One operation of a lane is open again; whether the lane is configured is told anew.
+pub fn give_to_lane(lanes: &mut Vec<Lane>, lane: u64, configured: bool)
+    requires there { is_some (slice_get lanes.old.items lane) ≡ true }
+    requires few { spec.out_of (slice_get lanes.old.items lane) + 1 < 2 ^ 64 }
+    ensures items { lanes.new.items ≡ spec.changed_at (spec.open_again configured) lane lanes.old.items }
+    ensures room { vec_capacity lanes.new ≡ vec_capacity lanes.old }
+{
+    let child = &mut lanes[lane as usize];
+    child.out += 1;
+    child.configured = configured;
 }
 
 /// The lane of a number.

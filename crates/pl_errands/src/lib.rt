@@ -5,9 +5,11 @@ mod errands;
 mod index;
 mod key;
 mod lane;
+mod laws;
 mod row;
 mod same;
 
 pub use errands::Errands;
+pub use laws::answers_are_undone;
 pub use pl_events;
 pub use pl_model;

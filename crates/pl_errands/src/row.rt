@@ -1,6 +1,7 @@
-ghost use Rattle.std.specs.Prelude.{◌≡◌, Some, slice_get, slice_set, true};
+ghost use Rattle.std.specs.Prelude.{◌≡◌, Some, option_map, slice_get, slice_set, true};
 ghost use Rattle.std.specs.Option.{option_copied};
 ghost use Rattle.std.specs.Vec.{vec_capacity};
+ghost use Rattle.pl_errands.specs.Lanes.{is_configured_in};
 ghost use Rattle.pl_errands.specs.Rows as spec;
 ghost use Rattle.pl_lemmas.specs.Words.{some_passes};
 
@@ -37,6 +38,12 @@ impl Row {
     {
         matches!(self.standing, Standing::Open)
     }
+
+    fn has_configured(&self) -> bool
+        ensures { result ≡ spec.is_configured self.now.standing }
+    {
+        matches!(self.standing, Standing::Configured)
+    }
 }
 
 /// What an operation comes to by a reply.
@@ -59,6 +66,26 @@ pub fn close(rows: &mut Vec<Row>, ticket: u64, standing: Standing) -> Errand
     let row = &mut rows[ticket as usize];
     row.standing = standing;
     row.errand
+}
+
+/// Opens an answered operation again, and gives its errand.
+pub fn reopen(rows: &mut Vec<Row>, ticket: u64) -> Errand
+    requires { some_passes (λ row. spec.is_answered row.standing) (slice_get rows.old.items ticket) ≡ true }
+    ensures was { option_map (λ row. row.errand) (slice_get rows.old.items ticket) ≡ Some result }
+    ensures set { rows.new.items ≡ slice_set rows.old.items ticket (record { errand = result; standing = Standing.Open }) }
+    ensures room { vec_capacity rows.new ≡ vec_capacity rows.old }
+{
+    let row = &mut rows[ticket as usize];
+    row.standing = Standing::Open;
+    row.errand
+}
+
+/// Whether an operation of a lane configured it.
+pub fn is_configured_by(rows: &[Row], lane: u64) -> bool
+    ensures { result ≡ is_configured_in rows.now lane }
+{
+    rows.iter()
+        .any(|row| row.errand.lane == lane && row.has_configured())
 }
 
 /// The row of a ticket.

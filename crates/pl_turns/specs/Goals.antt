@@ -1,5 +1,4 @@
 -- Goals that stand newest first, and those before one of them.
-pub use Rattle.pl_told.specs.Paths.{HaveAllPaths}
 use Rattle.std.specs.Prelude.{◌==◌, ℕ, if◌then◌else◌, List, [], ◌∷◌, length}
 use Rattle.pl_state.specs.declared.goal.Goal.{Goal}
 

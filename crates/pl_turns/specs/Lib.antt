@@ -3,3 +3,4 @@ pub mod Seen
 pub mod Chained
 pub mod Diffs
 pub mod Next
+pub mod Undone

@@ -1,6 +1,5 @@
 ghost use Rattle.std.specs.Prelude.{◌≡◌, IfOk, IfSome, option_map};
 ghost use Rattle.pl_model.specs.Claims.{chain_of_goal};
-ghost use Rattle.pl_turns.specs.Goals.{HaveAllPaths};
 ghost use Rattle.pl_turns.specs.Next as spec;
 ghost use Rattle.pl_turns.specs.Seen.{seen_turn};
 
@@ -18,9 +17,9 @@ pub fn next_turn<'a>(
     errands: &'a Errands,
     claims: &'a Claims,
 ) -> Option<Turn<'a>>
-    requires { HaveAllPaths requests.now.goals }
     ensures { option_map seen_turn result ≡ spec.next_turn requests.now errands.now claims.now }
 {
+    requests.have_paths();
     let number = claims.count();
     match requests.goal(number) {
         None => None,
@@ -42,7 +41,6 @@ pub fn decided_next(
     errands: &Errands,
     claims: &Claims,
 ) -> Result<Option<Settled>, OutOfMemory>
-    requires { HaveAllPaths requests.now.goals }
     ensures decided { IfOk result (λ made. option_map (λ one. one.decided) made ≡ spec.next_decided requests.now errands.now claims.now) }
     ensures chain { IfOk result (λ made. IfSome made (λ one. one.chain ≡ chain_of_goal claims.now.run one.decided)) }
 {

@@ -1,6 +1,5 @@
 ghost use Rattle.std.specs.Prelude.{◌≡◌, ◌+◌, ◌-◌, IfOk, OnErr, OnOk, drop, is_some, length};
 ghost use Rattle.std.specs.List.{cons_option};
-ghost use Rattle.pl_turns.specs.Goals.{HaveAllPaths};
 ghost use Rattle.pl_turns.specs.Next.{Extends, all_settled, next_decided};
 
 use crate::next::decided_next;
@@ -18,8 +17,8 @@ pub fn settle(
     requests: &Requests,
     errands: &Errands,
 ) -> Result<u64, OutOfMemory>
-    requires { HaveAllPaths requests.now.goals }
     ensures decided { OnOk result (claims.new.decided ≡ all_settled requests.now errands.now claims.old) }
+    ensures more { OnOk result (Extends claims.old.decided claims.new.decided) }
     ensures count { IfOk result (λ count. length claims.new.decided ≡ length claims.old.decided + count) }
     ensures run { claims.new.run ≡ claims.old.run }
     ensures unchanged { OnErr result (claims.new.decided ≡ claims.old.decided) }
@@ -41,7 +40,6 @@ fn decide_all(
     requests: &Requests,
     errands: &Errands,
 ) -> Result<(), OutOfMemory>
-    requires { HaveAllPaths requests.now.goals }
     ensures decided { OnOk result (claims.new.decided ≡ all_settled requests.now errands.now claims.old) }
     ensures more { Extends claims.old.decided claims.new.decided }
     ensures run { claims.new.run ≡ claims.old.run }
@@ -57,7 +55,6 @@ fn decide_next(
     requests: &Requests,
     errands: &Errands,
 ) -> Result<bool, OutOfMemory>
-    requires { HaveAllPaths requests.now.goals }
     ensures decided { OnOk result (claims.new.decided ≡ cons_option (next_decided requests.now errands.now claims.old) claims.old.decided) }
     ensures more { IfOk result (λ more. more ≡ is_some (next_decided requests.now errands.now claims.old)) }
     ensures run { claims.new.run ≡ claims.old.run }
@@ -73,8 +70,8 @@ fn decide_next(
     }
 }
 
-/// Takes the newest decisions back, until there are so many.
-fn take_back(claims: &mut Claims, count: u64)
+/// Takes the newest decisions back, until there are so many; takes no memory.
+pub fn take_back(claims: &mut Claims, count: u64)
     ensures decided { claims.new.decided ≡ drop (length claims.old.decided - count) claims.old.decided }
     ensures run { claims.new.run ≡ claims.old.run }
 {

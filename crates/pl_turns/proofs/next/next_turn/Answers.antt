@@ -8,7 +8,7 @@ use Rattle.pl_turns.proofs.next.next_turn.Goals as goal
 pub invariant_of-result : goal.invariant_of-result
 invariant_of-result c = record {
   is_goal = sym c.in-Some.ensures;
-  has_paths = numbered_all HasPaths c.args.requests.now.goals c.count-number.result c.in-Some.goal.now c.requires (sym c.in-Some.ensures);
+  has_paths = numbered_all HasPaths c.args.requests.now.goals c.count-number.result c.in-Some.goal.now c.have_paths.ensures (sym c.in-Some.ensures);
 }
 
 pub returns-in-None : goal.returns-in-None
