@@ -68,6 +68,14 @@ impl Claims {
         }
     }
 
+    /// Gives back what the run is over, with what is looked up in it; what is decided is let go.
+    pub fn into_base(self) -> Base
+        ensures { result ≡ self.run }
+    {
+        let Claims { base, .. } = self;
+        base
+    }
+
     /// Takes the memory that so many decisions more want.
     pub fn prepare(&mut self, count: u64) -> Result<(), OutOfMemory>
         ensures ready { OnOk result (self.new ≡ record self.old { ready = count }) }

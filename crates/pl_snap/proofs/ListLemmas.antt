@@ -1,5 +1,5 @@
 -- Lists side by side, and the first element of a kind.
-use Rattle.std.proofs.Common.{◌≡◌, ℕ, zero, suc, ◌+◌, ◌<◌, Bool, true, false, cond, Option, None, Some, option_map, List, [], ◌∷◌, ◌++◌, length, map, find, refl, ap, sym, subst, ◌∙◌, arith}
+use Rattle.std.proofs.Common.{◌≡◌, ℕ, zero, suc, ◌+◌, ◌<◌, Bool, true, false, cond, Option, None, Some, option_and_then, option_map, List, [], ◌∷◌, ◌++◌, length, map, find, refl, ap, sym, subst, ◌∙◌, arith}
 use Rattle.std.specs.Prelude.{position, slice_get, slice_set, remove}
 use Rattle.std.specs.List.{position_from}
 use Rattle.std.specs.Option.{option_or}
@@ -238,3 +238,17 @@ place-changed test change same (x ∷ xs) (suc k) =
 pub position-changed : {X : Type 0} (test : X → Bool) (change : X → X) → ((x : X) → test (change x) ≡ test x) → (xs : List X) (k : ℕ) → position test (changed_at change k xs) ≡ position test xs
 position-changed test change same xs k =
     position-place test (changed_at change k xs) ∙ place-changed test change same xs k ∙ sym (position-place test xs)
+
+find-place : {X : Type 0} (p : X → Bool) (xs : List X) → find p xs ≡ option_and_then (slice_get xs) (place p xs)
+find-place p [] = refl
+find-place {X = X} p (x ∷ xs) = by (p x) (place p xs) (find-place p xs)
+  where
+    by : (b : Bool) (later : Option ℕ) → find p xs ≡ option_and_then (slice_get xs) later
+        → cond b (Some x) (find p xs) ≡ option_and_then (slice_get (x ∷ xs)) (cond b (Some 0) (option_map suc later))
+    by true later rest = refl
+    by false None rest = rest
+    by false (Some k) rest = rest
+
+-- the first that passes is that of the first place that does
+pub find-position : {X : Type 0} (p : X → Bool) (xs : List X) → find p xs ≡ option_and_then (slice_get xs) (position p xs)
+find-position p xs = find-place p xs ∙ ap (option_and_then (slice_get xs)) (sym (position-place p xs))

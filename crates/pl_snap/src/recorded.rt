@@ -1,4 +1,4 @@
-ghost use Rattle.std.specs.Prelude.{◌≡◌, ◌==◌, ◌++◌, [], ◌∷◌, ℕ, if◌then◌else◌, IfErr, length, map, None, OnErr, OnOk, position, slice_get, Some};
+ghost use Rattle.std.specs.Prelude.{◌≡◌, ◌==◌, ◌++◌, [], ◌∷◌, ℕ, find, if◌then◌else◌, IfErr, length, map, None, OnErr, OnOk, position, slice_get, Some};
 ghost use Rattle.std.specs.Option.{option_copied, option_or};
 ghost use Rattle.pl_snap.specs.Calls.{is_goal, with_told};
 ghost use Rattle.pl_snap.specs.Lists.{changed_first};
@@ -76,6 +76,16 @@ impl Recorded {
         ensures { result ≡ position (is_goal goal) self.now }
     {
         self.places.get(&goal).copied()
+    }
+
+    /// What was recorded of a goal first.
+    pub fn first_of(&self, goal: u64) -> Option<&Fresh>
+        ensures { option_copied result ≡ find (is_goal goal) self.now }
+    {
+        match self.place_of(goal) {
+            None => None,
+            Some(place) => self.get(place),
+        }
     }
 
     /// Adds an entry at the end. Without memory it comes back and nothing was added.

@@ -341,6 +341,16 @@ impl Snap {
         let _ = &self.next_stamp;
     }
 
+    /// The entry that was recorded of a goal first, as it stands now.
+    pub fn recorded(&self, goal: u64) -> Option<&Entry>
+        ensures { option_map (λ entry. entry.now) result ≡ option_map (λ one. one.entry) (find (spec.is_goal goal) self.now.fresh) }
+    {
+        match self.fresh.first_of(goal) {
+            None => None,
+            Some(one) => Some(&one.entry),
+        }
+    }
+
     /// The entry of the row with this number in the state at the start, as it stands now, if it is left.
     pub fn row(&self, number: u64) -> Option<&Entry>
         ensures { option_map (λ entry. entry.now) result ≡ option_map (λ row. row.entry) (find (is_row number) self.now.rows) }

@@ -1,13 +1,15 @@
-ghost use Rattle.std.specs.Prelude.{◌≡◌, ◌<◌, ◌^◌, is_some, length, OnErr, OnOk, option_and_then, true};
+ghost use Rattle.std.specs.Prelude.{◌≡◌, ◌<◌, ◌^◌, is_some, length, OnErr, OnOk, option_and_then, slice_get, true};
 ghost use Rattle.std.specs.Option.{option_copied};
 ghost use Rattle.pl_lemmas.specs.Words.{numbered};
 ghost use Rattle.pl_model.specs.Claims as claims;
+ghost use Rattle.pl_model.specs.Due.{request_numbers};
 ghost use Rattle.pl_model.specs.Known.{Known, asked_at};
 ghost use Rattle.pl_model.specs.Legal.{last_of};
 ghost use Rattle.pl_told.specs.Column.{nothing_kept, prepared, retracted, with_change};
 ghost use Rattle.pl_told.specs.Paths.{HaveAllPaths};
 
 use crate::change::Change;
+use crate::index::number_of;
 use crate::stored::Stored;
 use pl_model::Heard;
 use pl_state::Goal;
@@ -115,6 +117,37 @@ impl Requests {
         match &self.newest {
             Some(change) if change.number() == n => Some(change.heard()),
             _ => self.stored.asked(n),
+        }
+    }
+
+    /// The number of told requests.
+    pub fn told_count(&self) -> u64
+        ensures count { result ≡ length self.now.asked }
+        ensures few { result < 2 ^ 63 }
+    {
+        match &self.newest {
+            None => self.stored.told_count(),
+            Some(_) => self.stored.told_count() + 1,
+        }
+    }
+
+    /// The told request before which so many were told.
+    fn heard(&self, place: u64) -> Option<&Heard>
+        ensures { option_copied result ≡ numbered self.now.asked place }
+    {
+        match &self.newest {
+            Some(change) if self.stored.told_count() == place => Some(change.heard()),
+            _ => self.stored.told(place),
+        }
+    }
+
+    /// The number of the told request before which so many were told.
+    pub fn told(&self, place: u64) -> Option<u64>
+        ensures { (known : Known) → known.asked ≡ self.now.asked → result ≡ slice_get (request_numbers known) place }
+    {
+        match self.heard(place) {
+            None => None,
+            Some(heard) => Some(number_of(&heard.request)),
         }
     }
 

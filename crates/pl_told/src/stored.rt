@@ -95,6 +95,21 @@ impl Stored {
         }
     }
 
+    /// The number of told requests.
+    pub fn told_count(&self) -> u64
+        ensures count { result ≡ length self.now.asked }
+        ensures few { result + self.now.room < 2 ^ 63 }
+    {
+        self.heard.len() as u64
+    }
+
+    /// The told request before which so many were told.
+    pub fn told(&self, place: u64) -> Option<&Heard>
+        ensures { option_copied result ≡ numbered self.now.asked place }
+    {
+        heard_at(self.heard.as_slice(), place)
+    }
+
     /// The number of the newest request, 0 where none was told.
     pub fn last_number(&self) -> u64
         ensures { result ≡ last_of self.now.asked }
