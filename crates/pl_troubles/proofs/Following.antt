@@ -15,7 +15,7 @@ use Rattle.pl_model.specs.declared.fixed.Fixed.{Fixed}
 use Rattle.pl_troubles.specs.Follows.{TroublesFollow, but_problems, ending, making, problems_after, with_all, with_loss}
 
 -- problems in two parts
-twice : (at : ℕ) (one other : List Problem) (problems : List (ℕ × Problem))
+pub twice : (at : ℕ) (one other : List Problem) (problems : List (ℕ × Problem))
     → problems ++ at_position at (one ++ other) ≡ with_all at other (with_all at one problems)
 twice at one other problems =
     ap (λ (more : List (ℕ × Problem)). problems ++ more) (map-append (λ (trouble : Problem). (at, trouble)) one other)

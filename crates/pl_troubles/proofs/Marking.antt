@@ -9,11 +9,13 @@ use Rattle.pl_lemmas.proofs.Options.{mapped_or}
 use Rattle.pl_decide.specs.declared.problem.Problem.{Problem}
 use Rattle.pl_model.specs.History.{is_no_want}
 use Rattle.pl_model.specs.Problems.{at_position}
-use Rattle.pl_troubles.specs.First.{FirstTells, IsKeptOf, least_place, place_of, want_place}
+use Rattle.pl_troubles.specs.First.{FirstTells, IsKeptOf, least_place, place_of, problem_of_row, want_place}
 use Rattle.pl_troubles.specs.Kept.{AreMarked}
-use Rattle.pl_troubles.specs.Marks.{with_mark, with_mark_of}
+use Rattle.pl_troubles.specs.Marks.{with_mark, with_mark_of, with_row_mark}
 use Rattle.pl_troubles.specs.declared.first.First.{First}
-use Rattle.pl_troubles.specs.declared.first.First.TheVariants.{Made, OfEvent}
+use Rattle.pl_troubles.specs.declared.first.First.TheVariants.{Made, OfEvent, OfRow}
+use Rattle.pl_troubles.specs.declared.first.RowProblem.{RowProblem}
+use Rattle.pl_troubles.specs.declared.first.RowProblem.TheVariants as row_problem
 use Rattle.pl_troubles.specs.declared.marks.Marks.{Marks}
 
 abbrev no_want : ℕ × Problem → Bool
@@ -64,6 +66,28 @@ marked_of made marks at None problems is_at kept are =
 marked_of made marks at (Some problem) problems is_at kept are =
     marked made marks at problem problems is_at (kept problem refl) are
 
+row_no_want : (what : RowProblem) (urn : List ℕ) → is_no_want (problem_of_row what urn) ≡ true
+row_no_want row_problem.Protected urn = refl
+row_no_want row_problem.MissingProvider urn = refl
+row_no_want row_problem.NotPermitted urn = refl
+
+or_none : (o : Option ℕ) → option_or o None ≡ o
+or_none None = refl
+or_none (Some n) = refl
+
+-- the problem of a row more
+pub row_marked : (what : RowProblem) (row : ℕ) (marks : Marks) (at : ℕ) (urn : List ℕ) (problems : List (ℕ × Problem))
+    → AreMarked marks problems → AreMarked (with_row_mark (OfRow at what row) marks) (problems ++ (at, problem_of_row what urn) ∷ [])
+row_marked what row marks at urn problems are =
+    subst (λ (these : Marks). AreMarked these (problems ++ (at, problem_of_row what urn) ∷ [])) same
+    (marked (OfRow at what row) marks at (problem_of_row what urn) problems refl (refl, urn, refl) are)
+  where
+    same : with_mark (OfRow at what row) (problem_of_row what urn) marks ≡ with_row_mark (OfRow at what row) marks
+    same = λ i. record {
+      first = option_or marks.first (only_if (row_no_want what urn i) (Some (OfRow at what row)));
+      wanted = (ap (λ (b : Bool). option_or marks.wanted (only_if (not b) (Some at))) (row_no_want what urn) ∙ or_none marks.wanted) i;
+    }
+
 -- other words for the marks and the list
 pub moved : {marks other : Marks} {problems more : List (ℕ × Problem)} → other ≡ marks → more ≡ problems → AreMarked marks problems
     → AreMarked other more
@@ -108,6 +132,7 @@ any_marked marks (placed ∷ later) are =
 place_told : (first : First) (placed : ℕ × Problem) → IsKeptOf first placed → place_of first ≡ placed.0
 place_told (Made at problem) placed kept = ap (λ (one : ℕ × Problem). one.0) (sym kept)
 place_told (OfEvent at) placed kept = sym kept.0
+place_told (OfRow at what row) placed kept = sym kept.0
 
 places_told : (first : Option First) (found : Option (ℕ × Problem)) → FirstTells first found
     → option_map place_of first ≡ option_map (λ (one : ℕ × Problem). one.0) found

@@ -7,7 +7,9 @@ use Rattle.pl_events.specs.declared.event.Stop.{Stop}
 use Rattle.pl_events.specs.declared.reply.Loss.{Loss}
 use Rattle.pl_lemmas.specs.Words.{option_list}
 use Rattle.pl_model.specs.Problems.{at_position, problem_of_end, problem_of_loss, problem_of_stop}
+use Rattle.pl_troubles.specs.First.{problem_of_row}
 use Rattle.pl_troubles.specs.Told.{told, told_step}
+use Rattle.pl_troubles.specs.declared.first.RowProblem.{RowProblem}
 use Rattle.pl_troubles.specs.declared.story.Story.{Story}
 use Rattle.pl_troubles.specs.declared.story.Story.TheFolds.{fold-roll-Story}
 use Rattle.pl_troubles.specs.declared.story.Story.TheOpen.{Story-F}
@@ -32,3 +34,8 @@ pub told_stopped : (at : ℕ) (stop : Stop) (before : Snapshot Story)
     → told (story.Stopped at stop before) ≡ told before.value ++ (at, problem_of_stop stop) ∷ []
 told_stopped at stop before =
     ap told (sym (story.rolls-Stopped at stop before)) ∙ fold-roll-Story (List (ℕ × Problem)) told_step (Story-F.Stopped at stop before)
+
+pub told_left : (at : ℕ) (what : RowProblem) (urn : Snapshot (List ℕ)) (before : Snapshot Story)
+    → told (story.Left at what urn before) ≡ told before.value ++ (at, problem_of_row what urn.value) ∷ []
+told_left at what urn before =
+    ap told (sym (story.rolls-Left at what urn before)) ∙ fold-roll-Story (List (ℕ × Problem)) told_step (Story-F.Left at what urn before)

@@ -15,7 +15,11 @@ with_mark made problem marks = record {
   wanted = option_or marks.wanted (only_if (not (is_no_want problem)) (Some (place_of made)));
 }
 
--- the same, where there is a problem
+-- with what would be kept of a problem other than want of memory if it were the first
+abbrev pub with_row_mark : First → Marks → Marks
+with_row_mark made marks = record marks { first = option_or marks.first (Some made) }
+
+-- the same as the first, where there is a problem
 abbrev pub with_mark_of : First → Option Problem → Marks → Marks
 with_mark_of made None marks = marks
 with_mark_of made (Some problem) marks = with_mark made problem marks

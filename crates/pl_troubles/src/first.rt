@@ -3,6 +3,14 @@ ghost use Rattle.pl_troubles.specs.First.{place_of};
 
 use pl_decide::Problem;
 
+/// What is wrong with a row that is left at the end of a run.
+#[derive(Clone, Copy, Debug)]
+pub enum RowProblem {
+    Protected,
+    MissingProvider,
+    NotPermitted,
+}
+
 /// The first problem other than want of memory, with the position of its event.
 #[derive(Debug, Drop)]
 pub enum First {
@@ -10,6 +18,9 @@ pub enum First {
     Made(u64, Problem),
     /// One that the event at this position is by itself: a loss, a host's end or a stop.
     OfEvent(u64),
+    /// One of what is left at the end of the run: the position, what is wrong, and with which row of the state at the
+    /// start.
+    OfRow(u64, RowProblem, u64),
 }
 
 impl First {
@@ -20,6 +31,7 @@ impl First {
         match self {
             First::Made(at, _) => *at,
             First::OfEvent(at) => *at,
+            First::OfRow(at, _, _) => *at,
         }
     }
 }

@@ -7,7 +7,7 @@ mod marks;
 mod story;
 mod troubles;
 
-pub use first::First;
+pub use first::{First, RowProblem};
 pub use laws::troubles_follow;
 pub use pl_decide;
 pub use pl_model;

@@ -2,10 +2,10 @@ ghost use Rattle.std.specs.Prelude.{◌≡◌, ◌||◌, is_some, not, None, Som
 ghost use Rattle.std.specs.Option.{option_or};
 ghost use Rattle.pl_model.specs.History.{is_no_want};
 ghost use Rattle.pl_model.specs.Problems.{problem_of_end, problem_of_loss, problem_of_stop};
-ghost use Rattle.pl_troubles.specs.Marks.{with_mark, with_mark_of};
-ghost use Rattle.pl_troubles.specs.declared.first.First.TheVariants.{Made, OfEvent};
+ghost use Rattle.pl_troubles.specs.Marks.{with_mark, with_mark_of, with_row_mark};
+ghost use Rattle.pl_troubles.specs.declared.first.First.TheVariants.{Made, OfEvent, OfRow};
 
-use crate::first::First;
+use crate::first::{First, RowProblem};
 use pl_decide::Problem;
 use pl_events::{HostEnd, Loss, Stop};
 
@@ -97,5 +97,12 @@ impl Marks {
             Stop::NoMemory => keep_place(&mut self.wanted, at),
             _ => keep_first(&mut self.first, First::OfEvent(at)),
         }
+    }
+
+    /// A row that is left at the end of the run; none of its problems is want of memory.
+    pub fn left(&mut self, at: u64, what: RowProblem, row: u64)
+        ensures { self.new ≡ with_row_mark (OfRow at what row) self.old }
+    {
+        keep_first(&mut self.first, First::OfRow(at, what, row));
     }
 }

@@ -3,13 +3,14 @@ ghost use Rattle.std.specs.Option.{option_copied};
 ghost use Rattle.pl_lemmas.specs.Words.{option_list};
 ghost use Rattle.pl_model.specs.History.{is_no_want};
 ghost use Rattle.pl_model.specs.Problems.{at_position, problem_of_end, problem_of_loss, problem_of_stop};
-ghost use Rattle.pl_troubles.specs.First.{FirstTells, least_place, want_place};
+ghost use Rattle.pl_troubles.specs.First.{FirstTells, least_place, problem_of_row, want_place};
 
-use crate::first::First;
+use crate::first::{First, RowProblem};
 use crate::marks::Marks;
 use crate::story::Story;
 use pl_decide::Problem;
 use pl_events::{HostEnd, Loss, Stop};
+use pl_urn::Urn;
 use std::alloc::Global;
 use std::fmt::{Debug, Formatter, Write};
 use std::marker::Model;
@@ -99,6 +100,16 @@ impl Troubles {
         let before = take_story(&mut self.list);
         self.list = Snapshot::of(&Story::Stopped(at, stop, before));
         self.marks.stop(at, stop);
+    }
+
+    /// What is wrong with a row of the state at the start that is left at the end of the run. Of the row's URN nothing
+    /// is kept in memory.
+    pub fn add_left(&mut self, at: u64, what: RowProblem, row: u64, urn: &Urn)
+        ensures { self.new ≡ self.old ++ (at, problem_of_row what urn.now) ∷ [] }
+    {
+        let before = take_story(&mut self.list);
+        self.list = Snapshot::of(&Story::Left(at, what, Snapshot::of(urn), before));
+        self.marks.left(at, what, row);
     }
 
     /// Problems of one event, in the order in which they count.
