@@ -1,11 +1,11 @@
 -- What is read of the columns' plain events.
 use Rattle.std.proofs.Common.{◌≡◌, ℕ, ap}
-use Rattle.pl_events.specs.Closing.{has_host_end, has_stop}
+use Rattle.pl_events.specs.Closing.{has_host_end}
 use Rattle.pl_lemmas.specs.Words.{has_number}
 use Rattle.pl_model.specs.Known.{is_recorded}
 use Rattle.pl_model.specs.Recording.{cleared_of, posted_of}
 use Rattle.pl_model.specs.Rows.{was_removed}
-use Rattle.pl_model_step.proofs.Plain.{plain_cleared, plain_host, plain_posted, plain_recorded, plain_removed, plain_stop}
+use Rattle.pl_model_step.proofs.Plain.{plain_cleared, plain_host, plain_posted, plain_recorded, plain_removed}
 use Rattle.pl_columns.specs.declared.columns.Columns.{Columns}
 use Rattle.pl_columns.specs.Read.{history_by, known_by, summary_by}
 
@@ -28,7 +28,3 @@ posted_read columns n = ap (λ numbers. has_number numbers n) (plain_posted (sum
 pub host_read : (columns : Columns) → has_host_end (known_by columns).history ≡ columns.records.records.host_gone
 unfolding history_by
 host_read columns = plain_host (summary_by columns)
-
-pub stop_read : (columns : Columns) → has_stop (known_by columns).history ≡ columns.records.records.stopped
-unfolding history_by
-stop_read columns = plain_stop (summary_by columns)

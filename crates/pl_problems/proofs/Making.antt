@@ -1,15 +1,12 @@
 -- The problems that a told request and a reply make, by what is known after them.
-use Rattle.std.proofs.Common.{◌≡◌, ◌==◌, ℕ, List, ◌++◌, filter_map, find, length, Option, option_and_then, option_map}
+use Rattle.std.proofs.Common.{◌≡◌, ◌==◌, ℕ, List, ◌++◌, filter_map, find, Option, option_and_then, option_map}
 use Rattle.pl_decide.specs.declared.problem.Problem.{Problem}
-use Rattle.pl_events.specs.declared.event.Request.{Request}
-use Rattle.pl_events.specs.declared.event.What.TheVariants.{Answered, Told}
+use Rattle.pl_events.specs.declared.event.What.TheVariants.{Answered}
 use Rattle.pl_events.specs.declared.reply.Reply.{Reply}
 use Rattle.pl_lemmas.specs.Words.{option_list}
 use Rattle.pl_model.specs.Known.{Known}
-use Rattle.pl_model.specs.Problems.{made_problems, missing_provider, problem_of_closed, problem_of_fate, refusal_in}
-use Rattle.pl_model.specs.Requests.{fate_of}
+use Rattle.pl_model.specs.Problems.{made_problems, missing_provider, problem_of_closed, refusal_in}
 use Rattle.pl_model.specs.Tickets.{closed_by}
-use Rattle.pl_model.specs.declared.heard.Fate.{Fate}
 use Rattle.pl_problems.specs.Before.{IsBeforeReply}
 use Rattle.pl_problems.specs.Since.{decided_since}
 
@@ -19,12 +16,6 @@ refused_since known before = filter_map (λ one. refusal_in one.decision) (decid
 
 abbrev pub missing_since : Known → ℕ → List Problem
 missing_since known before = filter_map (missing_provider known) (decided_since known before)
-
-pub made_by_told : (before : ℕ) (earlier later : Known) (request : Request) (fate : Fate) → length earlier.decided ≡ before
-    → fate_of earlier request ≡ fate
-    → made_problems earlier later (Told request) ≡ option_list (problem_of_fate fate) ++ (refused_since later before ++ missing_since later before)
-made_by_told before earlier later request fate count is = λ i.
-    option_list (problem_of_fate (is i)) ++ (refused_since later (count i) ++ missing_since later (count i))
 
 -- the problem that a reply is
 abbrev pub replied : Known → ℕ → Reply → Option Problem

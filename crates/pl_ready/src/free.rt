@@ -37,7 +37,7 @@ fn is_sound(columns: &Columns)
 }
 
 /// Whether no row that is left, not flagged and not the goal's claim has the goal's URN. Only the row that kept the URN at
-/// the start can have it, so this one is looked at, in a time that doesn't grow with the rows.
+/// the start can have it, so this one is looked at, in a time that grows with the logarithm of the number of rows.
 pub fn urn_is_free(columns: &Columns, goal: &Goal, one: &Decided) -> bool
     requires keepers { AreKeepers (known_by columns.now) }
     ensures { result ≡ spec.urn_is_free (known_by columns.now) goal.now one.now }
