@@ -14,8 +14,8 @@ use Rattle.pl_turns.specs.Next.{next_turn as turn_by}
 use Rattle.pl_turns.proofs.Goals.{before_length, numbered_within}
 use Rattle.pl_core.specs.declared.held.Core.TheInside.{Inside}
 use Rattle.pl_core.specs.Core.{IsCore, course_by}
-use Rattle.pl_core.specs.Course.{Course, known_now}
-use Rattle.pl_core.specs.Kept.{kept_of}
+use Rattle.pl_course.specs.Course.{Course, known_now}
+use Rattle.pl_course.specs.Kept.{kept_of}
 
 pub read_now : (inside : Inside) (course : Course) → IsCore inside → course_by inside ≡ course
     → summary_by inside.columns ≡ kept_of (summary_of course.run course.history)

@@ -1,5 +1,1 @@
-pub mod Course
-pub mod Kept
-pub mod Room
-pub mod Laws
 pub mod Core

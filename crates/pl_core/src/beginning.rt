@@ -1,5 +1,5 @@
 ghost use Rattle.std.specs.Prelude.{◌≡◌, IfOk, OnErr, true};
-ghost use Rattle.pl_core.specs.Course.{known_now, with_event};
+ghost use Rattle.pl_course.specs.Course.{known_now, with_event};
 ghost use Rattle.pl_events.specs.declared.event.What.TheVariants as what;
 ghost use Rattle.pl_model.specs.Due.{is_due_on};
 ghost use Rattle.pl_model.specs.Tickets.{next_ticket};

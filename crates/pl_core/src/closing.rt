@@ -1,6 +1,6 @@
 ghost use Rattle.std.specs.Prelude.{◌≡◌, true};
 ghost use Rattle.pl_columns.specs.Read.{history_by};
-ghost use Rattle.pl_core.specs.Course.{known_now, with_event};
+ghost use Rattle.pl_course.specs.Course.{known_now, with_event};
 ghost use Rattle.pl_errands.specs.Tickets.{with_loss as with_lost};
 ghost use Rattle.pl_events.specs.declared.event.What.TheVariants as what;
 ghost use Rattle.pl_model.specs.Legal.{MayHappen};

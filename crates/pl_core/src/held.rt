@@ -13,7 +13,7 @@ impl Model for Core {
     ghost use Rattle.std.specs.Coded.{codes};
     ghost use Rattle.pl_events.specs.contracts.event.Event as event;
     ghost use Rattle.pl_model.specs.contracts.fixed.Fixed as fixed;
-    ghost use Rattle.pl_core.specs.Course.{Course};
+    ghost use Rattle.pl_course.specs.Course.{Course};
 
     ghost Value = { Course };
 

@@ -1,4 +1,4 @@
-ghost use Rattle.pl_core.specs.Laws.{Laws};
+ghost use Rattle.pl_course.specs.Laws.{Laws};
 
 use pl_model_step::{plain_reads_same, summary_steps, summary_tells};
 

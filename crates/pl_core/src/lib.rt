@@ -4,6 +4,7 @@
 mod beginning;
 mod closing;
 mod held;
+mod keeping;
 mod laws;
 mod posting;
 mod reads;

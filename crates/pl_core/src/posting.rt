@@ -1,5 +1,5 @@
 ghost use Rattle.std.specs.Prelude.{◌≡◌, OnErr, OnOk};
-ghost use Rattle.pl_core.specs.Course.{known_now, with_event};
+ghost use Rattle.pl_course.specs.Course.{known_now, with_event};
 ghost use Rattle.pl_events.specs.declared.event.What.TheVariants as what;
 ghost use Rattle.pl_model.specs.Legal.{MayHappen};
 

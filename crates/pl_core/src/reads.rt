@@ -1,6 +1,6 @@
 ghost use Rattle.std.specs.Prelude.{◌≡◌, length};
 ghost use Rattle.std.specs.Option.{option_copied};
-ghost use Rattle.pl_core.specs.Course.{known_now};
+ghost use Rattle.pl_course.specs.Course.{known_now};
 ghost use Rattle.pl_model.specs.Claims.{is_chained};
 ghost use Rattle.pl_model.specs.Known as spec;
 ghost use Rattle.pl_model.specs.Tickets as tickets;

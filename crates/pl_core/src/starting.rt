@@ -1,6 +1,6 @@
 ghost use Rattle.std.specs.Prelude.{◌≡◌, ◌+◌, [], IfErr, IfOk, length, reverse, true};
 ghost use Rattle.pl_claims.specs.Columns.{nothing_decided};
-ghost use Rattle.pl_core.specs.Course.{no_event};
+ghost use Rattle.pl_course.specs.Course.{no_event};
 ghost use Rattle.pl_model.specs.Run.{has_host, HasNames, rows_of};
 ghost use Rattle.pl_records.specs.Columns.{nothing_kept};
 ghost use Rattle.pl_sound.specs.Sound.{IsSound};

@@ -1,5 +1,5 @@
 ghost use Rattle.std.specs.Prelude.{◌≡◌, IfOk, option_and_then, option_map};
-ghost use Rattle.pl_core.specs.Course.{known_now};
+ghost use Rattle.pl_course.specs.Course.{known_now};
 ghost use Rattle.pl_model.specs.Decisions.{checked_at};
 ghost use Rattle.pl_model.specs.Known as spec;
 ghost use Rattle.pl_turns.specs.Seen.{seen_turn};

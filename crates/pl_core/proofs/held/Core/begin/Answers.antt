@@ -3,9 +3,9 @@ use Rattle.pl_errands.specs.Tickets.{Kept, events_of}
 use Rattle.pl_events.specs.declared.event.What.TheVariants.{Begun}
 use Rattle.pl_model.specs.Due.{is_due_on}
 use Rattle.pl_model.specs.Tickets.{lane_count, next_ticket}
-use Rattle.pl_core.specs.Course.{Course, known_now}
-use Rattle.pl_core.proofs.Begun.{begun, begun_errands, lane_kept, may_begin, next_kept}
-use Rattle.pl_core.proofs.Together.{moved, used}
+use Rattle.pl_course.specs.Course.{Course, known_now}
+use Rattle.pl_course.proofs.Begun.{begun, begun_errands, lane_kept, may_begin, next_kept}
+use Rattle.pl_course.proofs.Together.{moved, used}
 use Rattle.pl_core.proofs.held.Core.begin.Goals as goal
 
 pub begin_prepared-ticket-requires-clause-lane : goal.begin_prepared-ticket-requires-clause-lane

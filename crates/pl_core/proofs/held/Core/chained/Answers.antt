@@ -1,6 +1,6 @@
 use Rattle.std.proofs.Common.{◌∙◌, ap}
 use Rattle.pl_model.specs.Claims.{is_chained}
-use Rattle.pl_core.specs.Course.{Course}
+use Rattle.pl_course.specs.Course.{Course}
 use Rattle.pl_core.proofs.Reading.{read_now}
 use Rattle.pl_core.proofs.held.Core.chained.Goals as goal
 

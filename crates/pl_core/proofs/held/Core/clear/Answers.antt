@@ -1,7 +1,7 @@
 use Rattle.std.proofs.Common.{refl, ap}
 use Rattle.pl_events.specs.Seen.{Seen}
 use Rattle.pl_events.specs.declared.event.What.TheVariants.{Cleared}
-use Rattle.pl_core.proofs.Together.{cleared, course_on, clear_room, may_now, moved, clears_left, uncleared}
+use Rattle.pl_course.proofs.Together.{cleared, course_on, clear_room, may_now, moved, clears_left, uncleared}
 use Rattle.pl_core.proofs.held.Core.clear.Goals as goal
 
 pub clear-requires-clause-room : goal.clear-requires-clause-room

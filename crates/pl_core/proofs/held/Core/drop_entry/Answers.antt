@@ -1,7 +1,7 @@
 use Rattle.std.proofs.Common.{refl, ap}
 use Rattle.pl_events.specs.Seen.{Seen}
 use Rattle.pl_events.specs.declared.event.What.TheVariants.{Dropped}
-use Rattle.pl_core.proofs.Together.{dropped, course_on, drop_room, may_now, moved, removals_left, unremoved}
+use Rattle.pl_course.proofs.Together.{dropped, course_on, drop_room, may_now, moved, removals_left, unremoved}
 use Rattle.pl_core.proofs.held.Core.drop_entry.Goals as goal
 
 pub remove-requires-clause-room : goal.remove-requires-clause-room

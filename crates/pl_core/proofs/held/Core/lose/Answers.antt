@@ -2,7 +2,7 @@ use Rattle.std.proofs.Common.{◌∙◌, ℕ, ap}
 use Rattle.pl_columns.specs.declared.columns.Columns.{Columns}
 use Rattle.pl_events.specs.Seen.{Seen}
 use Rattle.pl_events.specs.declared.event.What.TheVariants.{Lost}
-use Rattle.pl_core.proofs.Together.{course_on, kept_open, loss_room, lost, lost_columns, may_now, moved}
+use Rattle.pl_course.proofs.Together.{course_on, kept_open, loss_room, lost, lost_columns, may_now, moved}
 use Rattle.pl_core.proofs.held.Core.lose.Goals as goal
 
 pub lose_ticket-requires : goal.lose_ticket-requires

@@ -1,5 +1,5 @@
-use Rattle.pl_core.proofs.Start.{started}
-use Rattle.pl_core.proofs.Together.{moved}
+use Rattle.pl_course.proofs.Start.{started}
+use Rattle.pl_course.proofs.Together.{moved}
 use Rattle.pl_core.proofs.held.Core.new.Goals as goal
 
 pub invariant_of-result : goal.invariant_of-result

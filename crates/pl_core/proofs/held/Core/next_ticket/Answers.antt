@@ -1,7 +1,7 @@
 use Rattle.std.proofs.Common.{◌∙◌, ap}
 use Rattle.pl_model.specs.Tickets.{next_ticket}
-use Rattle.pl_core.specs.Course.{Course}
-use Rattle.pl_core.proofs.Begun.{kept_next}
+use Rattle.pl_course.specs.Course.{Course}
+use Rattle.pl_course.proofs.Begun.{kept_next}
 use Rattle.pl_core.proofs.held.Core.next_ticket.Goals as goal
 
 pub returns : goal.returns

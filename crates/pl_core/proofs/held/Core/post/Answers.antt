@@ -2,7 +2,7 @@ use Rattle.std.proofs.Common.{◌∙◌, ap}
 use Rattle.pl_events.specs.declared.event.What.TheVariants.{Posted}
 use Rattle.pl_lemmas.specs.Words.{has_number}
 use Rattle.pl_records.specs.Columns.{Kept}
-use Rattle.pl_core.proofs.Together.{may_now, unposted}
+use Rattle.pl_course.proofs.Together.{may_now, unposted}
 use Rattle.pl_core.proofs.held.Core.post.Goals as goal
 
 pub post_prepared-requires-clause-unposted : goal.post_prepared-requires-clause-unposted

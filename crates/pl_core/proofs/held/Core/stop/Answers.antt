@@ -1,7 +1,7 @@
 use Rattle.std.proofs.Common.{◌∙◌, ℕ, refl, ap}
 use Rattle.pl_events.specs.Seen.{Seen}
 use Rattle.pl_events.specs.declared.event.What.TheVariants.{Stopped}
-use Rattle.pl_core.proofs.Together.{course_on, may_now, moved, stop_room, stopped, stopped_columns}
+use Rattle.pl_course.proofs.Together.{course_on, may_now, moved, stop_room, stopped, stopped_columns}
 use Rattle.pl_core.proofs.held.Core.stop.Goals as goal
 
 pub push_reserved-requires : goal.push_reserved-requires

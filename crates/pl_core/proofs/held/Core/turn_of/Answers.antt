@@ -1,6 +1,6 @@
 use Rattle.std.proofs.Common.{◌∙◌, sym}
 use Rattle.pl_turns.specs.Seen.{seen_turn}
-use Rattle.pl_core.specs.Course.{known_now}
+use Rattle.pl_course.specs.Course.{known_now}
 use Rattle.pl_core.proofs.Reading.{at_goal, at_none, at_other, turn_number, turn_read}
 use Rattle.pl_core.proofs.held.Core.turn_of.Goals as goal
 

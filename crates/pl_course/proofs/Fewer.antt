@@ -4,7 +4,7 @@ use Rattle.std.proofs.lemmas.List.FromFn.{length-range_with_len}
 use Rattle.std.specs.List.{list_any, range_with_len}
 use Rattle.pl_lemmas.specs.Words.{has_number}
 use Rattle.pl_lemmas.proofs.Numbers.{range_has, same_number}
-use Rattle.pl_core.specs.Room.{count_left}
+use Rattle.pl_course.specs.Room.{count_left}
 
 -- no more pass a test than pass a weaker one
 no_more : {X : Type 0} (p q : X → Bool) → ((x : X) → q x ≡ true → p x ≡ true) → (xs : List X) → length (filter q xs) ≤ length (filter p xs)

@@ -27,14 +27,14 @@ use Rattle.pl_model.specs.Tickets.{errand_at, is_closed, is_open}
 use Rattle.pl_model_step.specs.Law.{SummaryTells}
 use Rattle.pl_records.specs.Columns.{with_cleared, with_posted, with_removed, with_stop}
 use Rattle.pl_troubles.specs.Follows.{with_loss}
-use Rattle.pl_core.specs.Core.{GoTogether}
-use Rattle.pl_core.specs.Course.{Course, known_now, with_event}
-use Rattle.pl_core.specs.Kept.{kept_after}
-use Rattle.pl_core.specs.Laws.{Laws}
-use Rattle.pl_core.specs.Room.{count_left, count_once, count_out, is_out}
-use Rattle.pl_core.proofs.Fewer.{any_kept, fewer, fewer_left}
-use Rattle.pl_core.proofs.Happens.{clear_new, clear_within, drop_new, drop_within, post_new, seat_open, stop_new}
-use Rattle.pl_core.proofs.Steps.{told_on}
+use Rattle.pl_course.specs.Together.{GoTogether}
+use Rattle.pl_course.specs.Course.{Course, known_now, with_event}
+use Rattle.pl_course.specs.Kept.{kept_after}
+use Rattle.pl_course.specs.Laws.{Laws}
+use Rattle.pl_course.specs.Room.{count_left, count_once, count_out, is_out}
+use Rattle.pl_course.proofs.Fewer.{any_kept, fewer, fewer_left}
+use Rattle.pl_course.proofs.Happens.{clear_new, clear_within, drop_new, drop_within, post_new, seat_open, stop_new}
+use Rattle.pl_course.proofs.Steps.{told_on}
 
 -- ---- losses
 
@@ -321,17 +321,3 @@ module _ (laws : Laws) (columns : Columns) (history : Seen) (both : GoTogether c
         clears = both.clears;
         room = omega arith;
       }
-
--- ---- memory that is taken
-
--- the records may be ready for one more, or not
-pub records_ready : (columns : Columns) (history : Seen) (ready : Bool) → GoTogether columns history
-    → GoTogether (record columns { records = record columns.records { ready = ready } }) history
-records_ready columns history ready both = record {
-  orderly = both.orderly;
-  told = both.told;
-  names = both.names;
-  removals = both.removals;
-  clears = both.clears;
-  room = both.room;
-}

@@ -21,12 +21,12 @@ use Rattle.pl_model.specs.Tickets.{begun_of, lane_count, next_ticket}
 use Rattle.pl_value.specs.Inside.{greatest}
 use Rattle.pl_model_stays.proofs.Operations.Once.{history_of}
 use Rattle.pl_model_step.proofs.Plain.{plain_begun}
-use Rattle.pl_core.specs.Core.{GoTogether}
-use Rattle.pl_core.specs.Laws.{Laws}
-use Rattle.pl_core.specs.Room.{count_out, is_out}
-use Rattle.pl_core.proofs.Lanes.{due_low}
-use Rattle.pl_core.proofs.Steps.{told_on}
-use Rattle.pl_core.proofs.Together.{used}
+use Rattle.pl_course.specs.Together.{GoTogether}
+use Rattle.pl_course.specs.Laws.{Laws}
+use Rattle.pl_course.specs.Room.{count_out, is_out}
+use Rattle.pl_course.proofs.Lanes.{due_low}
+use Rattle.pl_course.proofs.Steps.{told_on}
+use Rattle.pl_course.proofs.Together.{used}
 
 one_more : {X : Type 0} (test : X → Bool) (x : X) (xs : List X) → length (filter test (x ∷ xs)) ≤ length (filter test xs) + 1
 one_more {X = X} test x xs = by (test x)
@@ -74,17 +74,6 @@ module _ (columns : Columns) (history : Seen) (both : GoTogether columns history
   pub may_begin : (seat ticket : ℕ) (about : Op) (lane : ℕ) → ticket ≡ next_ticket past → is_due_on known about lane ≡ true
       → MayHappen known seat (Begun ticket lane about)
   may_begin seat ticket about lane next due = record { next = next ∙ sym (ap next_ticket (history_of run past)); due = due }
-
-  -- the errands may be ready for one more, or not
-  pub errands_ready : (ready : Bool) → GoTogether (record columns { errands = record columns.errands { ready = ready } }) history
-  errands_ready ready = record {
-    orderly = both.orderly;
-    told = both.told;
-    names = both.names;
-    removals = both.removals;
-    clears = both.clears;
-    room = both.room;
-  }
 
 module _ (laws : Laws) (columns : Columns) (history : Seen) (both : GoTogether columns history) where
   pub begun : (seat ticket : ℕ) (about : Op) (lane : ℕ) → MayHappen (known_of columns.claims.run history.events) seat (Begun ticket lane about)

@@ -14,17 +14,18 @@ use Rattle.pl_events.specs.declared.operation.Op.TheVariants as op
 use Rattle.pl_events.specs.declared.operation.Subject.TheVariants as subject
 use Rattle.pl_model.specs.declared.fixed.Fixed.{Fixed}
 use Rattle.pl_model.specs.declared.work.Work.TheVariants.{Clear as to_clear, Drop as to_drop}
-use Rattle.pl_model.specs.Due.{has_open, is_clear_ready, is_drop_ready, is_due, is_post_due, is_ready, is_removable, is_settled, is_settled_request, passes_limit}
+use Rattle.pl_model.specs.Due.{has_open, is_clear_ready, is_due, is_post_due, is_ready, is_removable, is_settled, is_settled_request, passes_limit}
 use Rattle.pl_model.specs.History.{known_of}
 use Rattle.pl_model.specs.Known.{Known, asked_at, has_problem, is_over}
 use Rattle.pl_model.specs.Legal.{MayStop, is_seats}
 use Rattle.pl_model.specs.Recording.{cleared_of, posted_of, removed_of}
-use Rattle.pl_model.specs.Rows.{has_dependents, is_doomed, is_left, is_sent, is_taken_out, is_taken_over, is_target, pending_at, takes_along, was_removed}
+use Rattle.pl_model.specs.Rows.{has_dependents, is_doomed, is_left, is_taken_out, is_taken_over, is_target, pending_at, takes_along, was_removed}
 use Rattle.pl_model.specs.Run.{is_preview, is_refresh, rows_of}
 use Rattle.pl_model.specs.State.{is_cleared, is_found}
 use Rattle.pl_model.specs.Tickets.{errand_at, is_open, reply_to}
 use Rattle.pl_model_stays.proofs.Lists.Growing.{run_of}
 use Rattle.pl_model_stays.proofs.Operations.Once.{history_of}
+use Rattle.pl_model_stays.proofs.Work.Listing.{dropped-removable}
 
 module _ (run : Fixed) (past : List Event) where
   abbrev known : Known
@@ -33,10 +34,7 @@ module _ (run : Fixed) (past : List Event) where
   -- ---- drops
 
   removable : (row : ℕ) → is_due known (to_drop row) ≡ true → is_removable known row ≡ true
-  removable row due =
-      and_left (is_removable known row) (not (is_sent known row))
-      (and_right (not (has_problem known)) (is_drop_ready known row)
-      (and_left (is_ready known (to_drop row)) (not (passes_limit known (to_drop row))) due))
+  removable row due = dropped-removable known row due
 
   doomed_alone : (row : ℕ) → is_due known (to_drop row) ≡ true → (is_doomed known row && not (was_removed known row)) ≡ true
   doomed_alone row due =

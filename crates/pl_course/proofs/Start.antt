@@ -14,9 +14,9 @@ use Rattle.pl_model.specs.Run.{HasNames, has_host, rows_of}
 use Rattle.pl_model.specs.Step.{summary_of}
 use Rattle.pl_records.specs.Columns as records
 use Rattle.pl_told.specs.Column as requests
-use Rattle.pl_core.specs.Core.{GoTogether}
-use Rattle.pl_core.specs.Kept.{kept_of}
-use Rattle.pl_core.proofs.Fewer.{left_most}
+use Rattle.pl_course.specs.Together.{GoTogether}
+use Rattle.pl_course.specs.Kept.{kept_of}
+use Rattle.pl_course.proofs.Fewer.{left_most}
 
 -- a run with a host has no problem at its start
 none_first : (run : Fixed) (mode : Mode) → run.mode ≡ mode → has_host mode ≡ true → start_problems run ≡ []

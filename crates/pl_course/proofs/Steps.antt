@@ -6,7 +6,7 @@ use Rattle.pl_events.specs.declared.event.What.TheVariants.{Answered, Begun, Cle
 use Rattle.pl_model.specs.declared.fixed.Fixed.{Fixed}
 use Rattle.pl_model.specs.Step.{Summary, after, summary_of}
 use Rattle.pl_model_step.specs.Law.{SummarySteps}
-use Rattle.pl_core.specs.Kept.{kept_after, kept_of}
+use Rattle.pl_course.specs.Kept.{kept_after, kept_of}
 
 same_after : (run : Fixed) (before : Summary) (seat : ℕ) (what : What)
     → kept_after run before.count seat what (kept_of before) ≡ kept_of (after run before (record { seat = seat; what = what }))

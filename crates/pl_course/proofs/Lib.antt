@@ -1,0 +1,12 @@
+pub mod Fewer
+pub mod Happens
+pub mod Steps
+pub mod Together
+pub mod Lanes
+pub mod Begun
+pub mod Start
+pub mod Kept
+pub mod Recorded
+pub mod Deleted
+pub mod Answered
+pub mod Told

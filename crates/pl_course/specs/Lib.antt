@@ -1,0 +1,9 @@
+pub mod Course
+pub mod Kept
+pub mod Room
+pub mod Laws
+pub mod Recorded
+pub mod Together
+pub mod Keeping
+pub mod Answered
+pub mod Telling
